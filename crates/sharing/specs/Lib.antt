@@ -1,0 +1,5 @@
+pub mod Claims
+pub mod Examples
+pub mod Rules
+pub mod Sharing
+pub mod Totals
