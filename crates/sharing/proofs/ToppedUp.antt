@@ -13,7 +13,7 @@ use Rattle.std.proofs.shelf.Lists.{length-map, length-take-le, drop-more, getD-
 use Rattle.std.proofs.shelf.Edits.{map-over-more}
 use Rattle.std.proofs.shelf.Tests.{lt-ltb, le-ltb}
 use Rattle.std.proofs.shelf.Ways.{tells}
-use Rattle.ranked.specs.Order.{Sorted, all-inserted}
+use Rattle.ranked.specs.Ranked.{Sorted, all-inserted}
 use Rattle.ranked.proofs.Orderly.{Orderly, not-so, clash, sorted-all-inserted}
 use Rattle.ranked.proofs.Strict.{Strict, strict-same, all-into, all-out}
 use Rattle.sharing.specs.declared.claims.Claim.{Claim}

@@ -2,7 +2,7 @@
 ghost use lib.Dec.{ltb};
 ghost use Prim.Native.Nat.{ℕ};
 ghost use Rattle.sharing.specs.Claims.{remaining, larger-then-earlier};
-use ranked::Order;
+use ranked::Ranking;
 
 // What one maker would trade: its size, its working time, and the contracts that a rule allots to it.
 #[derive(Clone, Copy, Debug, PartialEq, Eq)]
@@ -16,7 +16,7 @@ pub struct Claim {
 #[derive(Clone, Copy)]
 pub struct LargestRemaining;
 
-pub impl Order<Claim> for LargestRemaining as LargestRemainingOrder {
+pub impl Ranking<Claim> for LargestRemaining as LargestRemainingRanking {
     ghost Ranks = { ℕ × ℕ };
 
     ghost rank = { λ _. remaining };
@@ -34,7 +34,7 @@ pub impl Order<Claim> for LargestRemaining as LargestRemainingOrder {
 #[derive(Clone, Copy)]
 pub struct Earliest;
 
-pub impl Order<Claim> for Earliest as EarliestOrder {
+pub impl Ranking<Claim> for Earliest as EarliestRanking {
     ghost Ranks = { ℕ };
 
     ghost rank = { λ _ c. c .time };

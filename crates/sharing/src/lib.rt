@@ -12,11 +12,14 @@ pub use claims::ClaimDebug;
 pub use claims::ClaimEq;
 pub use claims::ClaimPartialEq;
 pub use claims::Earliest;
-pub use claims::EarliestOrder;
+pub use claims::EarliestRanking;
 pub use claims::LargestRemaining;
-pub use claims::LargestRemainingOrder;
+pub use claims::LargestRemainingRanking;
 pub use examples::worked_examples;
 pub use pro_rata::SizeProRata;
 pub use pro_rata::SizeProRataRule;
 pub use rule::Rule;
 pub use rule::share_out;
+
+#[cfg(test)]
+mod tests;
