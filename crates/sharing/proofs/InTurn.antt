@@ -6,17 +6,17 @@ use native.Mathlib.Omega.{arith}
 use lib.ListN.{length, getD, take}
 use Rattle.std.specs.Vec.{Each}
 use Rattle.sharing.specs.declared.claims.Claim.{Claim}
-use Rattle.sharing.specs.Claims.{size, with-allotment, allotted}
+use Rattle.sharing.specs.Claims.{size-of, with-allotment, allotted}
 use Rattle.sharing.specs.Rules.{in-turn, by-time}
 use Rattle.sharing.specs.Sharing.{Lawful}
 use Rattle.sharing.specs.Totals.{total}
 use Rattle.sharing.proofs.Allotted.{each-refl, no-claim}
 
-turn-sum : (amount : ℕ) (cs : List Claim) → total (λ n. n) (in-turn amount cs) ≡ min amount (total size cs)
+turn-sum : (amount : ℕ) (cs : List Claim) → total (λ n. n) (in-turn amount cs) ≡ min amount (total size-of cs)
 turn-sum amount [] = omega arith
 turn-sum amount (c ∷ cs) = omega (arith, turn-sum (amount - c .size) cs)
 
-turn-within : (amount : ℕ) (cs : List Claim) → Each _≤_ (in-turn amount cs) (map size cs)
+turn-within : (amount : ℕ) (cs : List Claim) → Each _≤_ (in-turn amount cs) (map size-of cs)
 turn-within amount [] = tt
 turn-within amount (c ∷ cs) = (omega arith, turn-within (amount - c .size) cs)
 
@@ -27,7 +27,7 @@ turn-fixed amount (c ∷ cs) (n ∷ old) = ap (λ l. min (c .size) amount ∷ l)
 
 pub by-time-lawful : Lawful by-time
 by-time-lawful = record {
-  sum = λ amount cs _. turn-sum amount cs;
+  adds-up = λ amount cs _. turn-sum amount cs;
   within = λ amount cs _. turn-within amount cs;
   above = λ amount cs _. each-refl (in-turn amount cs);
   fixed = λ amount cs old _. (turn-fixed amount cs old, turn-fixed amount cs old);
@@ -38,7 +38,7 @@ length-turn amount [] = refl
 length-turn amount (c ∷ cs) = ap suc (length-turn (amount - c .size) cs)
 
 -- what the earlier claims leave is what their sizes leave
-pub turn-at : (amount : ℕ) (cs : List Claim) (i : ℕ) → i < length cs → getD (in-turn amount cs) i 0 ≡ min (size (getD cs i no-claim)) (amount - total size (take i cs))
+pub turn-at : (amount : ℕ) (cs : List Claim) (i : ℕ) → i < length cs → getD (in-turn amount cs) i 0 ≡ min (size-of (getD cs i no-claim)) (amount - total size-of (take i cs))
 turn-at amount [] i in′ = absurd (omega arith)
 turn-at amount (c ∷ cs) zero in′ = omega arith
 turn-at amount (c ∷ cs) (suc i) in′ = turn-at (amount - c .size) cs i (omega arith) ∙ omega arith

@@ -14,7 +14,7 @@ use Rattle.std.proofs.shelf.Elements.{all-weaker, all-map}
 use Rattle.std.proofs.shelf.Lists.{length-map, getD-map}
 use Rattle.std.proofs.shelf.Tests.{cond-both, cond-true, cond-false, leb-true, leb-false, le-leb, lt-leb}
 use Rattle.sharing.specs.declared.claims.Claim.{Claim}
-use Rattle.sharing.specs.Claims.{size, with-allotment, allotted, Ascending, Shareable, remaining, larger-then-earlier}
+use Rattle.sharing.specs.Claims.{size-of, with-allotment, allotted, Ascending, Shareable, remaining, larger-then-earlier}
 use Rattle.sharing.specs.Rules.{part, parts, topped, topped-parts, size-pro-rata}
 use Rattle.sharing.specs.Sharing.{Lawful}
 use Rattle.sharing.specs.Totals.{one-if, total, count}
@@ -47,58 +47,58 @@ part-below amount all n lt some =
 
 module _ (amount all : ℕ) (some : 0 < all) where
   -- the quotients leave less than one contract a claim
-  quotients-low : (cs : List Claim) → total (λ c. amount * c .size / all) cs * all ≤ amount * total size cs
+  quotients-low : (cs : List Claim) → total (λ c. amount * c .size / all) cs * all ≤ amount * total size-of cs
   quotients-low [] = omega arith
-  quotients-low (c ∷ cs) = omega (arith, quotients-low cs, add-mul (amount * c .size / all) (total (λ d. amount * d .size / all) cs) all, mul-add amount (c .size) (total size cs), div-mul-le-self (amount * c .size) all)
+  quotients-low (c ∷ cs) = omega (arith, quotients-low cs, add-mul (amount * c .size / all) (total (λ d. amount * d .size / all) cs) all, mul-add amount (c .size) (total size-of cs), div-mul-le-self (amount * c .size) all)
 
-  quotients-high : (cs : List Claim) → amount * total size cs ≤ (total (λ c. amount * c .size / all) cs + length cs) * all
+  quotients-high : (cs : List Claim) → amount * total size-of cs ≤ (total (λ c. amount * c .size / all) cs + length cs) * all
   quotients-high [] = omega arith
   quotients-high (c ∷ cs) =
-      omega (arith, quotients-high cs, add-mul (amount * c .size / all) (total (λ d. amount * d .size / all) cs) all, mul-add amount (c .size) (total size cs), div-add-mod' (amount * c .size) all, mod-below (amount * c .size) all some)
+      omega (arith, quotients-high cs, add-mul (amount * c .size / all) (total (λ d. amount * d .size / all) cs) all, mul-add amount (c .size) (total size-of cs), div-add-mod' (amount * c .size) all, mod-below (amount * c .size) all some)
 
 pub length-parts : (amount : ℕ) (cs : List Claim) → length (parts amount cs) ≡ length cs
-length-parts amount cs = length-map cs (λ c. part amount (total size cs) (c .size))
+length-parts amount cs = length-map cs (λ c. part amount (total size-of cs) (c .size))
 
-pub parts-at : (amount : ℕ) (cs : List Claim) (i : ℕ) → i < length cs → getD (parts amount cs) i 0 ≡ part amount (total size cs) (getD cs i no-claim .size)
-parts-at amount cs i in′ = getD-map (λ c. part amount (total size cs) (c .size)) cs i no-claim 0 in′
+pub parts-at : (amount : ℕ) (cs : List Claim) (i : ℕ) → i < length cs → getD (parts amount cs) i 0 ≡ part amount (total size-of cs) (getD cs i no-claim .size)
+parts-at amount cs i in′ = getD-map (λ c. part amount (total size-of cs) (c .size)) cs i no-claim 0 in′
 
 -- at the turn i of the loop that writes the parts, the part of the claim that is read is that claim's
-pub part-read : (amount all : ℕ) (cs ds : List Claim) (i n : ℕ) → all ≡ total size cs → ds ≡ allotted-to (parts amount cs) cs i → i < length cs → n ≡ part amount all (size (getD ds i no-claim)) → n ≡ getD (parts amount cs) i 0
+pub part-read : (amount all : ℕ) (cs ds : List Claim) (i n : ℕ) → all ≡ total size-of cs → ds ≡ allotted-to (parts amount cs) cs i → i < length cs → n ≡ part amount all (size-of (getD ds i no-claim)) → n ≡ getD (parts amount cs) i 0
 part-read amount all cs ds i n whole state in′ value =
     let read = unwritten (parts amount cs) cs ds i state in′ (length-parts amount cs) in
-    value ∙ (λ t. part amount (whole t) (size (read t))) ∙ sym (parts-at amount cs i in′)
+    value ∙ (λ t. part amount (whole t) (size-of (read t))) ∙ sym (parts-at amount cs i in′)
 
-pub sizes-small : (cs : List Claim) → All (λ c. (1 ≤ c .size) × (c .size ≤ 99999)) cs → All (λ c. size c ≤ 99999) cs
-sizes-small cs sized = all-weaker (λ c. (1 ≤ c .size) × (c .size ≤ 99999)) (λ c. size c ≤ 99999) (λ c s. s .1) cs sized
+pub sizes-small : (cs : List Claim) → All (λ c. (1 ≤ c .size) × (c .size ≤ 99999)) cs → All (λ c. size-of c ≤ 99999) cs
+sizes-small cs sized = all-weaker (λ c. (1 ≤ c .size) × (c .size ≤ 99999)) (λ c. size-of c ≤ 99999) (λ c s. s .1) cs sized
 
 pub parts-bounded : (amount : ℕ) (cs : List Claim) → All (λ c. (1 ≤ c .size) × (c .size ≤ 99999)) cs → All (λ n. n ≤ 99999) (parts amount cs)
 parts-bounded amount cs sized =
-    all-map (λ n. n ≤ 99999) (λ c. part amount (total size cs) (c .size)) cs
-    (all-weaker (λ c. (1 ≤ c .size) × (c .size ≤ 99999)) (λ c. part amount (total size cs) (c .size) ≤ 99999) (λ c s. omega (arith, part-within amount (total size cs) (c .size))) cs sized)
+    all-map (λ n. n ≤ 99999) (λ c. part amount (total size-of cs) (c .size)) cs
+    (all-weaker (λ c. (1 ≤ c .size) × (c .size ≤ 99999)) (λ c. part amount (total size-of cs) (c .size) ≤ 99999) (λ c s. omega (arith, part-within amount (total size-of cs) (c .size))) cs sized)
 
 -- the amount covers all sizes: the parts are the sizes
-pub parts-covered : (amount : ℕ) (cs : List Claim) → total size cs ≤ amount → parts amount cs ≡ map size cs
-parts-covered amount cs covers = ap (λ (f : Claim → ℕ). map f cs) (λ t c. cond-true (leb (total size cs) amount) (c .size) (amount * c .size / total size cs) (le-leb (total size cs) amount covers) t)
+pub parts-covered : (amount : ℕ) (cs : List Claim) → total size-of cs ≤ amount → parts amount cs ≡ map size-of cs
+parts-covered amount cs covers = ap (λ (f : Claim → ℕ). map f cs) (λ t c. cond-true (leb (total size-of cs) amount) (c .size) (amount * c .size / total size-of cs) (le-leb (total size-of cs) amount covers) t)
 
 -- it does not: the parts leave less than one contract a claim
-module _ (amount : ℕ) (cs : List Claim) (short : amount < total size cs) where
-  quotients : total (λ n. n) (parts amount cs) ≡ total (λ c. amount * c .size / total size cs) cs
+module _ (amount : ℕ) (cs : List Claim) (short : amount < total size-of cs) where
+  quotients : total (λ n. n) (parts amount cs) ≡ total (λ c. amount * c .size / total size-of cs) cs
   quotients =
-      total-map (λ c. part amount (total size cs) (c .size)) (λ n. n) cs
-      ∙ ap (λ (f : Claim → ℕ). total f cs) (λ t c. part-short amount (total size cs) (c .size) short t)
+      total-map (λ c. part amount (total size-of cs) (c .size)) (λ n. n) cs
+      ∙ ap (λ (f : Claim → ℕ). total f cs) (λ t c. part-short amount (total size-of cs) (c .size) short t)
 
   pub parts-low : total (λ n. n) (parts amount cs) ≤ amount
-  parts-low = omega (arith, quotients, le-of-mul-le-mul-right (quotients-low amount (total size cs) (omega arith) cs) (omega arith))
+  parts-low = omega (arith, quotients, le-of-mul-le-mul-right (quotients-low amount (total size-of cs) (omega arith) cs) (omega arith))
 
   pub parts-high : amount ≤ total (λ n. n) (parts amount cs) + length cs
-  parts-high = omega (arith, quotients, le-of-mul-le-mul-right (quotients-high amount (total size cs) (omega arith) cs) (omega arith))
+  parts-high = omega (arith, quotients, le-of-mul-le-mul-right (quotients-high amount (total size-of cs) (omega arith) cs) (omega arith))
 
 -- the claims with their parts allotted
 abbrev floored : ℕ → List Claim → Claim → Claim
-floored amount cs c = with-allotment (part amount (total size cs) (c .size)) c
+floored amount cs c = with-allotment (part amount (total size-of cs) (c .size)) c
 
 pub with-parts : (amount : ℕ) (cs : List Claim) → allotted (parts amount cs) cs ≡ map (floored amount cs) cs
-with-parts amount cs = allotted-map (λ c. part amount (total size cs) (c .size)) cs
+with-parts amount cs = allotted-map (λ c. part amount (total size-of cs) (c .size)) cs
 
 ascending-map : (f : Claim → Claim) → ((c : Claim) → f c .time ≡ c .time) → (cs : List Claim) → Ascending cs → Ascending (map f cs)
 ascending-map f same [] up = tt
@@ -109,11 +109,11 @@ module _ (amount : ℕ) (cs : List Claim) (ok : Shareable amount cs) where
   pub parts-ascending : Ascending (allotted (parts amount cs) cs)
   parts-ascending = subst Ascending (sym (with-parts amount cs)) (ascending-map (floored amount cs) (λ c. refl) cs (ok .timed))
 
-  pub parts-small : amount < total size cs → All (λ c. c .allotment < 99999) (allotted (parts amount cs) cs)
+  pub parts-small : amount < total size-of cs → All (λ c. c .allotment < 99999) (allotted (parts amount cs) cs)
   parts-small short =
       subst (All (λ c. c .allotment < 99999)) (sym (with-parts amount cs))
       (all-map (λ c. c .allotment < 99999) (floored amount cs) cs
-      (all-weaker (λ c. (1 ≤ c .size) × (c .size ≤ 99999)) (λ c. part amount (total size cs) (c .size) < 99999) (λ c sized. omega (arith, part-below amount (total size cs) (c .size) short (sized .0))) cs (ok .sized)))
+      (all-weaker (λ c. (1 ≤ c .size) × (c .size ≤ 99999)) (λ c. part amount (total size-of cs) (c .size) < 99999) (λ c sized. omega (arith, part-below amount (total size-of cs) (c .size) short (sized .0))) cs (ok .sized)))
 
   pub parts-length : length (allotted (parts amount cs) cs) ≡ length cs
   parts-length = ap length (with-parts amount cs) ∙ length-map cs (floored amount cs)
@@ -123,7 +123,7 @@ module _ (amount : ℕ) (cs : List Claim) (ok : Shareable amount cs) where
   extra = amount - total (λ n. n) (parts amount cs)
 
   more : Claim → ℕ
-  more c = part amount (total size cs) (c .size) + one-if (ltb (count (λ d. larger-then-earlier (remaining d) (remaining (floored amount cs c))) (allotted (parts amount cs) cs)) extra)
+  more c = part amount (total size-of cs) (c .size) + one-if (ltb (count (λ d. larger-then-earlier (remaining d) (remaining (floored amount cs c))) (allotted (parts amount cs) cs)) extra)
 
   topped-is : topped-parts amount cs ≡ map more cs
   unfolding extra more
@@ -131,32 +131,32 @@ module _ (amount : ℕ) (cs : List Claim) (ok : Shareable amount cs) where
       ap (map (λ c. c .allotment + one-if (ltb (count (λ d. larger-then-earlier (remaining d) (remaining c)) (allotted (parts amount cs) cs)) extra))) (with-parts amount cs)
       ∙ map-map (λ c. c .allotment + one-if (ltb (count (λ d. larger-then-earlier (remaining d) (remaining c)) (allotted (parts amount cs) cs)) extra)) (floored amount cs) cs
 
-  pro-rata-sum : total (λ n. n) (size-pro-rata .allotments amount cs) ≡ min amount (total size cs)
+  pro-rata-sum : total (λ n. n) (size-pro-rata .allotments amount cs) ≡ min amount (total size-of cs)
   pro-rata-sum =
-      cond-both (leb (total size cs) amount) (parts amount cs) (topped-parts amount cs) (λ ns. total (λ n. n) ns ≡ min amount (total size cs))
-      (λ yes. let covers = leb-true (total size cs) amount yes in ap (total (λ n. n)) (parts-covered amount cs covers) ∙ total-map size (λ n. n) cs ∙ omega arith)
+      cond-both (leb (total size-of cs) amount) (parts amount cs) (topped-parts amount cs) (λ ns. total (λ n. n) ns ≡ min amount (total size-of cs))
+      (λ yes. let covers = leb-true (total size-of cs) amount yes in ap (total (λ n. n)) (parts-covered amount cs covers) ∙ total-map size-of (λ n. n) cs ∙ omega arith)
       (λ no.
-      let short = leb-false (total size cs) amount no in
-      let allotments = ap (total (λ c. c .allotment)) (with-parts amount cs) ∙ total-map (floored amount cs) (λ c. c .allotment) cs ∙ sym (total-map (λ c. part amount (total size cs) (c .size)) (λ n. n) cs) in
+      let short = leb-false (total size-of cs) amount no in
+      let allotments = ap (total (λ c. c .allotment)) (with-parts amount cs) ∙ total-map (floored amount cs) (λ c. c .allotment) cs ∙ sym (total-map (λ c. part amount (total size-of cs) (c .size)) (λ n. n) cs) in
       total-topped (amount - total (λ n. n) (parts amount cs)) (allotted (parts amount cs) cs) parts-ascending
       ∙ omega (arith, allotments, parts-length, parts-low amount cs short, parts-high amount cs short))
 
-  pro-rata-within : Each _≤_ (size-pro-rata .allotments amount cs) (map size cs)
+  pro-rata-within : Each _≤_ (size-pro-rata .allotments amount cs) (map size-of cs)
   unfolding more
   pro-rata-within =
-      cond-both (leb (total size cs) amount) (parts amount cs) (topped-parts amount cs) (λ ns. Each _≤_ ns (map size cs))
-      (λ _. each-map (λ c. part amount (total size cs) (c .size)) size cs (all-weaker (λ c. (1 ≤ c .size) × (c .size ≤ 99999)) (λ c. part amount (total size cs) (c .size) ≤ c .size) (λ c _. part-within amount (total size cs) (c .size)) cs (ok .sized)))
+      cond-both (leb (total size-of cs) amount) (parts amount cs) (topped-parts amount cs) (λ ns. Each _≤_ ns (map size-of cs))
+      (λ _. each-map (λ c. part amount (total size-of cs) (c .size)) size-of cs (all-weaker (λ c. (1 ≤ c .size) × (c .size ≤ 99999)) (λ c. part amount (total size-of cs) (c .size) ≤ c .size) (λ c _. part-within amount (total size-of cs) (c .size)) cs (ok .sized)))
       (λ no.
-      let short = leb-false (total size cs) amount no in
-      subst (λ ns. Each _≤_ ns (map size cs)) (sym topped-is)
-      (each-map more size cs (all-weaker (λ c. (1 ≤ c .size) × (c .size ≤ 99999)) (λ c. more c ≤ c .size) (λ c sized. omega (arith, part-below amount (total size cs) (c .size) short (sized .0), one-if-small (ltb (count (λ d. larger-then-earlier (remaining d) (remaining (floored amount cs c))) (allotted (parts amount cs) cs)) extra))) cs (ok .sized))))
+      let short = leb-false (total size-of cs) amount no in
+      subst (λ ns. Each _≤_ ns (map size-of cs)) (sym topped-is)
+      (each-map more size-of cs (all-weaker (λ c. (1 ≤ c .size) × (c .size ≤ 99999)) (λ c. more c ≤ c .size) (λ c sized. omega (arith, part-below amount (total size-of cs) (c .size) short (sized .0), one-if-small (ltb (count (λ d. larger-then-earlier (remaining d) (remaining (floored amount cs c))) (allotted (parts amount cs) cs)) extra))) cs (ok .sized))))
 
   pro-rata-above : Each _≤_ (parts amount cs) (size-pro-rata .allotments amount cs)
   unfolding more
   pro-rata-above =
-      cond-both (leb (total size cs) amount) (parts amount cs) (topped-parts amount cs) (Each _≤_ (parts amount cs))
+      cond-both (leb (total size-of cs) amount) (parts amount cs) (topped-parts amount cs) (Each _≤_ (parts amount cs))
       (λ _. each-refl (parts amount cs))
-      (λ _. subst (Each _≤_ (parts amount cs)) (sym topped-is) (each-map (λ c. part amount (total size cs) (c .size)) more cs (all-weaker (λ c. (1 ≤ c .size) × (c .size ≤ 99999)) (λ c. part amount (total size cs) (c .size) ≤ more c) (λ c _. omega arith) cs (ok .sized))))
+      (λ _. subst (Each _≤_ (parts amount cs)) (sym topped-is) (each-map (λ c. part amount (total size-of cs) (c .size)) more cs (all-weaker (λ c. (1 ≤ c .size) × (c .size ≤ 99999)) (λ c. part amount (total size-of cs) (c .size) ≤ more c) (λ c _. omega arith) cs (ok .sized))))
 
 -- the sizes are what they were, whatever is allotted
 map-allotted : (f : ℕ → ℕ) (old : List ℕ) (cs : List Claim) → map (λ c. f (c .size)) (allotted old cs) ≡ map (λ c. f (c .size)) cs
@@ -164,13 +164,13 @@ map-allotted f [] cs = refl
 map-allotted f (n ∷ old) [] = refl
 map-allotted f (n ∷ old) (c ∷ cs) = ap (λ l. f (c .size) ∷ l) (map-allotted f old cs)
 
-total-allotted : (old : List ℕ) (cs : List Claim) → total size (allotted old cs) ≡ total size cs
+total-allotted : (old : List ℕ) (cs : List Claim) → total size-of (allotted old cs) ≡ total size-of cs
 total-allotted [] cs = refl
 total-allotted (n ∷ old) [] = refl
 total-allotted (n ∷ old) (c ∷ cs) = ap (λ k. c .size + k) (total-allotted old cs)
 
 pub parts-fixed : (amount : ℕ) (old : List ℕ) (cs : List Claim) → parts amount (allotted old cs) ≡ parts amount cs
-parts-fixed amount old cs = ap (λ all. map (λ c. part amount all (c .size)) (allotted old cs)) (total-allotted old cs) ∙ map-allotted (part amount (total size cs)) old cs
+parts-fixed amount old cs = ap (λ all. map (λ c. part amount all (c .size)) (allotted old cs)) (total-allotted old cs) ∙ map-allotted (part amount (total size-of cs)) old cs
 
 pub allotted-twice : (ns old : List ℕ) (cs : List Claim) → length cs ≤ length ns → allotted ns (allotted old cs) ≡ allotted ns cs
 allotted-twice ns [] cs long = refl
@@ -180,11 +180,11 @@ allotted-twice [] (n ∷ old) (c ∷ cs) long = absurd (omega arith)
 allotted-twice (m ∷ ns) (n ∷ old) (c ∷ cs) long = ap (λ l. with-allotment m c ∷ l) (allotted-twice ns old cs (omega arith))
 
 -- topped up over their parts, the claims have what the rule means
-pub topped-over : (amount : ℕ) (cs : List Claim) → Shareable amount cs → amount < total size cs → allotted (topped-parts amount cs) (allotted (parts amount cs) cs) ≡ allotted (size-pro-rata .allotments amount cs) cs
+pub topped-over : (amount : ℕ) (cs : List Claim) → Shareable amount cs → amount < total size-of cs → allotted (topped-parts amount cs) (allotted (parts amount cs) cs) ≡ allotted (size-pro-rata .allotments amount cs) cs
 topped-over amount cs ok short =
     let f : Claim → ℕ = λ c. c .allotment + one-if (ltb (count (λ d. larger-then-earlier (remaining d) (remaining c)) (allotted (parts amount cs) cs)) (amount - total (λ n. n) (parts amount cs))) in
     allotted-twice (topped-parts amount cs) (parts amount cs) cs (omega (arith, length-map (allotted (parts amount cs) cs) f, parts-length amount cs ok))
-    ∙ ap (λ ns. allotted ns cs) (sym (cond-false (leb (total size cs) amount) (parts amount cs) (topped-parts amount cs) (lt-leb (total size cs) amount short)))
+    ∙ ap (λ ns. allotted ns cs) (sym (cond-false (leb (total size-of cs) amount) (parts amount cs) (topped-parts amount cs) (lt-leb (total size-of cs) amount short)))
 
 pro-rata-fixed : (amount : ℕ) (cs : List Claim) (old : List ℕ) → size-pro-rata .allotments amount (allotted old cs) ≡ size-pro-rata .allotments amount cs
 pro-rata-fixed amount cs old =
@@ -195,7 +195,7 @@ pro-rata-fixed amount cs old =
 
 pub size-pro-rata-lawful : Lawful size-pro-rata
 size-pro-rata-lawful = record {
-  sum = pro-rata-sum;
+  adds-up = pro-rata-sum;
   within = pro-rata-within;
   above = pro-rata-above;
   fixed = λ amount cs old _. (pro-rata-fixed amount cs old, parts-fixed amount old cs);

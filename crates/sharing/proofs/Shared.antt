@@ -8,7 +8,7 @@ use Rattle.std.specs.shelf.Lists.{All}
 use Rattle.std.proofs.shelf.Elements.{length-each}
 use Rattle.std.proofs.shelf.Lists.{length-map}
 use Rattle.sharing.specs.declared.claims.Claim.{Claim}
-use Rattle.sharing.specs.Claims.{size, allotment, with-allotment, allotted, Ascending, Shareable}
+use Rattle.sharing.specs.Claims.{size-of, allotment-of, with-allotment, allotted, Ascending, Shareable}
 use Rattle.sharing.specs.Sharing.{Sharing, Lawful}
 use Rattle.sharing.specs.Totals.{total}
 
@@ -35,13 +35,13 @@ shareable-again amount ns cs ok = record {
   timed = ascending-allotted ns cs (ok .timed);
 }
 
-total-allotted : (ns : List ℕ) (cs : List Claim) → length ns ≡ length cs → total allotment (allotted ns cs) ≡ total (λ n. n) ns
+total-allotted : (ns : List ℕ) (cs : List Claim) → length ns ≡ length cs → total allotment-of (allotted ns cs) ≡ total (λ n. n) ns
 total-allotted [] [] long = refl
 total-allotted [] (c ∷ cs) long = absurd (omega arith)
 total-allotted (n ∷ ns) [] long = absurd (omega arith)
 total-allotted (n ∷ ns) (c ∷ cs) long = ap (λ k. n + k) (total-allotted ns cs (omega arith))
 
-pub shared-total : (s : Sharing) → Lawful s → (amount : ℕ) (cs : List Claim) → Shareable amount cs → total allotment (allotted (s .allotments amount cs) cs) ≡ min amount (total size cs)
+pub shared-total : (s : Sharing) → Lawful s → (amount : ℕ) (cs : List Claim) → Shareable amount cs → total allotment-of (allotted (s .allotments amount cs) cs) ≡ min amount (total size-of cs)
 shared-total s laws amount cs ok =
-    total-allotted (s .allotments amount cs) cs (length-each _≤_ (s .allotments amount cs) (map size cs) (laws .within amount cs ok) ∙ length-map cs size)
-    ∙ laws .sum amount cs ok
+    total-allotted (s .allotments amount cs) cs (length-each _≤_ (s .allotments amount cs) (map size-of cs) (laws .within amount cs ok) ∙ length-map cs size-of)
+    ∙ laws .adds-up amount cs ok

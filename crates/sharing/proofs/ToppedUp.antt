@@ -173,15 +173,15 @@ module _ (n : ℕ) (cs : List Claim) (up : Ascending cs) where
   pub total-topped : total (λ k. k) (topped n cs) ≡ total (λ c. c .allotment) cs + min n (length cs)
   unfolding bump
   total-topped =
-      let allotment : Claim → ℕ = λ c. c .allotment in
+      let allotment-of : Claim → ℕ = λ c. c .allotment in
       let f : Claim → ℕ = λ c. c .allotment + one-if (ltb (count (λ d. left-first d c) cs) n) in
       let long = sym (total-ones in-order) ∙ same-count (λ _. 1) ∙ total-ones cs in
       total-map f (λ k. k) cs
       ∙ sym (same-count f)
-      ∙ sym (total-map bump allotment in-order)
-      ∙ ap (total allotment) (sym raised-is)
+      ∙ sym (total-map bump allotment-of in-order)
+      ∙ ap (total allotment-of) (sym raised-is)
       ∙ total-raised n in-order
-      ∙ (λ t. same-count allotment t + min n (long t))
+      ∙ (λ t. same-count allotment-of t + min n (long t))
 
   pub topped-up : all-inserted earlier [] (raised n (all-inserted left-first [] cs)) ≡ allotted (topped n cs) cs
   unfolding in-order bump

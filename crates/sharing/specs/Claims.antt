@@ -7,11 +7,11 @@ use lib.ListN.{length}
 use Rattle.std.specs.shelf.Lists.{All}
 use Rattle.sharing.specs.declared.claims.Claim.{Claim}
 
-abbrev pub size : Claim → ℕ
-size c = c .size
+abbrev pub size-of : Claim → ℕ
+size-of c = c .size
 
-abbrev pub allotment : Claim → ℕ
-allotment c = c .allotment
+abbrev pub allotment-of : Claim → ℕ
+allotment-of c = c .allotment
 
 -- the same claim with another allotment
 abbrev pub with-allotment : ℕ → Claim → Claim

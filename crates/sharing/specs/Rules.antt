@@ -4,7 +4,7 @@ use mathlib.Core.List.{List, [], _∷_, map}
 use Prim.Native.Nat.{ℕ, min, _+_, _-_, _*_, _/_}
 use lib.Dec.{leb, ltb}
 use Rattle.sharing.specs.declared.claims.Claim.{Claim}
-use Rattle.sharing.specs.Claims.{size, with-allotment, allotted, remaining, larger-then-earlier}
+use Rattle.sharing.specs.Claims.{size-of, with-allotment, allotted, remaining, larger-then-earlier}
 use Rattle.sharing.specs.Sharing.{Sharing}
 use Rattle.sharing.specs.Totals.{one-if, total, count}
 
@@ -19,10 +19,10 @@ by-time = record { allotments = in-turn; floors = in-turn }
 
 -- a size's part of an amount, rounded down; all of it where the amount covers all sizes
 abbrev pub part : ℕ → ℕ → ℕ → ℕ
-part amount all size = cond (leb all amount) size (amount * size / all)
+part amount all n = cond (leb all amount) n (amount * n / all)
 
 abbrev pub parts : ℕ → List Claim → List ℕ
-parts amount cs = map (λ c. part amount (total size cs) (c .size)) cs
+parts amount cs = map (λ c. part amount (total size-of cs) (c .size)) cs
 
 -- one contract more
 abbrev pub one-more : Claim → Claim
@@ -39,6 +39,6 @@ topped-parts amount cs = topped (amount - total (λ n. n) (parts amount cs)) (al
 -- by size: the floor is the part; where the amount covers all sizes, nothing is topped up
 abbrev pub size-pro-rata : Sharing
 size-pro-rata = record {
-  allotments = λ amount cs. cond (leb (total size cs) amount) (parts amount cs) (topped-parts amount cs);
+  allotments = λ amount cs. cond (leb (total size-of cs) amount) (parts amount cs) (topped-parts amount cs);
   floors = parts;
 }

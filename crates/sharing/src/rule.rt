@@ -2,7 +2,7 @@
 ghost use mathlib.Core.Path.{_≡_};
 ghost use Prim.Native.Nat.{_^_, _<_, min};
 ghost use lib.ListN.{length, getD};
-ghost use Rattle.sharing.specs.Claims.{Shareable, allotted, allotment, size};
+ghost use Rattle.sharing.specs.Claims.{Shareable, allotted, allotment-of, size-of};
 ghost use Rattle.sharing.specs.Sharing.{Sharing, Lawful};
 ghost use Rattle.sharing.specs.Totals.{total};
 use crate::claims::Claim;
@@ -27,8 +27,8 @@ pub trait Rule {
 
 // The contracts allotted to all claims.
 fn total_allotted(claims: &[Claim]) -> u32
-    requires { ⌜ total allotment (now claims) < 2 ^ 32 ⌝ }
-    ensures { λ r. ⌜ r ≡ total allotment (now (claims .entry)) ⌝ }
+    requires { ⌜ total allotment-of (now claims) < 2 ^ 32 ⌝ }
+    ensures { λ r. ⌜ r ≡ total allotment-of (now (claims .entry)) ⌝ }
 {
     let mut sum = 0;
     for c in claims {
@@ -41,7 +41,7 @@ fn total_allotted(claims: &[Claim]) -> u32
 pub fn share_out<R: Rule>(rule: &R, amount: u32, claims: &mut [Claim]) -> u32
     requires { ⌜ Shareable amount (now claims) ⌝ }
     ensures after { λ _. ⌜ now (claims .exit) ≡ allotted (meaning (now (rule .entry)) .allotments amount (now (claims .entry))) (now (claims .entry)) ⌝ }
-    ensures value { λ r. ⌜ r ≡ min amount (total size (now (claims .entry))) ⌝ }
+    ensures value { λ r. ⌜ r ≡ min amount (total size-of (now (claims .entry))) ⌝ }
     ensures again { λ _. ⌜ Shareable amount (now (claims .exit)) ⌝ }
 {
     rule.share(amount, claims);
