@@ -1,1 +1,2 @@
 pub mod Collars
+mod Worked

@@ -1,8 +1,15 @@
+pub mod Calls
 pub mod Caps
 pub mod Checks
+pub mod Examples
 pub mod Guarantee
+pub mod Level
+pub mod Model
 pub mod Numbers
+pub mod Outcome
 pub mod Prices
 pub mod Ranks
 pub mod Rulebook
 pub mod Sides
+pub mod Trade
+pub mod Walk

@@ -1,6 +1,7 @@
 // The terms of the venue as types, and its rules as small proved functions. What a call does is defined in specs/.
 mod caps;
 mod checks;
+mod examples;
 mod guarantee;
 mod numbers;
 mod prices;
@@ -9,6 +10,7 @@ mod tape;
 mod terms;
 
 pub use caps::collar_distance;
+pub use examples::worked_examples;
 pub use guarantee::for_the_group;
 pub use guarantee::least_for_the_group;
 pub use numbers::Cause;
@@ -22,5 +24,6 @@ pub use tape::Step;
 pub use terms::Entry;
 pub use terms::Kind;
 pub use terms::Order;
+pub use terms::Routed;
 pub use terms::Side;
 pub use terms::Term;

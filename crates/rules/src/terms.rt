@@ -74,3 +74,18 @@ pub struct Entry {
     pub time: u32,
     pub own_firm_mark: bool,
 }
+
+// An order on its way over prices, at its entry or at its return from a route, and what the book keeps of one that is out.
+#[derive(Clone, Copy, Debug, PartialEq, Eq)]
+pub struct Routed {
+    pub id: u64,
+    pub firm: u16,
+    pub kind: Kind,
+    pub side: Side,
+    pub term: Term,
+    pub market: bool,
+    pub cap: u32,
+    pub size: u32,
+    pub directed: Option<u16>,
+    pub own_firm_mark: bool,
+}
