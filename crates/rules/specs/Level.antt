@@ -83,12 +83,13 @@ is-specialist Other = false
 is-specialist MakerQuote = false
 is-specialist SpecialistQuote = true
 
--- a quote of the firm that the order is directed to
+-- a quote, which is no Market Order, of the firm that the order is directed to
 abbrev pub quote-of : ℕ → Entry → Bool
-quote-of firm e = is-quote (e .kind) && eqb (e .firm) firm
+quote-of firm e = in-class 4 e && (is-quote (e .kind) && eqb (e .firm) firm)
 
+-- a specialist's quote
 abbrev pub specialist : Entry → Bool
-specialist e = is-specialist (e .kind)
+specialist e = in-class 4 e && is-specialist (e .kind)
 
 -- the guaranteed group: the directed firm's quotes there or, failing those, all specialist quotes
 abbrev pub in-group : Option ℕ → List Entry → Entry → Bool

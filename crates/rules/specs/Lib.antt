@@ -3,6 +3,7 @@ pub mod Caps
 pub mod Checks
 pub mod Examples
 pub mod Guarantee
+pub mod Laws
 pub mod Level
 pub mod Model
 pub mod Numbers

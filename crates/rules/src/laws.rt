@@ -1,0 +1,16 @@
+// First laws of the definitions, each named by a function so that the gate asks for its proof.
+ghost use Rattle.rules.specs.Laws.{One-price, All-prices};
+
+// At one price, under every lawful rule, the fills add up, nobody gives more than it has, and the order or the price is exhausted.
+pub fn one_price_is_exhausted() -> bool
+    ensures { λ _. ⌜ One-price ⌝ }
+{
+    true
+}
+
+// From price to price, under every lawful rule, the fills are what the balance lost, and each entry lost what its lines say.
+pub fn nothing_is_lost_from_price_to_price() -> bool
+    ensures { λ _. ⌜ All-prices ⌝ }
+{
+    true
+}
