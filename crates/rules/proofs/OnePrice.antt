@@ -110,7 +110,7 @@ held-split q p inside (e ∷ es) =
 
 -- the group is part of the fourth class, whatever its entries hold
 module _ (directed : Option ℕ) (es : List Entry) where
-  group-class : (e : Entry) → in-group directed es e ≡ true → in-class 4 e ≡ true
+  pub group-class : (e : Entry) → in-group directed es e ≡ true → in-class 4 e ≡ true
   group-class = by directed
     where
       quotes : (f : ℕ) (e : Entry) → quote-of f e ≡ true → in-class 4 e ≡ true
@@ -123,7 +123,7 @@ module _ (directed : Option ℕ) (es : List Entry) where
       by None = specialists
       by (Some f) = cond-both (ltb 0 (count (quote-of f) es)) (quote-of f) specialist (λ g. (e : Entry) → g e ≡ true → in-class 4 e ≡ true) (λ _. quotes f) (λ _. specialists)
 
-  group-steady : (n : ℕ) (e : Entry) → in-group directed es (resized n e) ≡ in-group directed es e
+  pub group-steady : (n : ℕ) (e : Entry) → in-group directed es (resized n e) ≡ in-group directed es e
   group-steady = by directed
     where
       by : (o : Option ℕ) → (n : ℕ) (e : Entry) → in-group o es (resized n e) ≡ in-group o es e

@@ -1,6 +1,6 @@
 -- First laws of the definitions: what one price leaves, and what an order does from price to price. Assumes nothing.
 use mathlib.Core.Path.{_≡_}
-use mathlib.Core.Bool.{Bool, cond, not}
+use mathlib.Core.Bool.{Bool, true, false, cond, not}
 use mathlib.Core.List.{List, [], _∷_}
 use mathlib.Core.Logic.{_⊎_}
 use Prim.Native.Nat.{ℕ, min, _+_, _≤_, _<_}
@@ -9,7 +9,7 @@ use lib.ListN.{length}
 use Rattle.std.specs.declared.option.Option.{Option}
 use Rattle.std.specs.shelf.Lists.{All, kept-by}
 use Rattle.sharing.specs.Sharing.{Sharing, Lawful}
-use Rattle.sharing.specs.Totals.{total}
+use Rattle.sharing.specs.Totals.{total, count}
 use Rattle.rules.specs.declared.numbers.Cause.{Cause}
 use Rattle.rules.specs.declared.tape.Line.{Line}
 use Rattle.rules.specs.declared.tape.Line.the-variants.{Fill, Cancel, Filled, Rest, Route}
@@ -17,9 +17,9 @@ use Rattle.rules.specs.declared.tape.Step.{Step}
 use Rattle.rules.specs.declared.terms.Entry.{Entry}
 use Rattle.rules.specs.declared.terms.Routed.{Routed}
 use Rattle.rules.specs.Checks.{is-barred}
-use Rattle.rules.specs.Level.{size-of, level}
+use Rattle.rules.specs.Level.{size-of, resized, level}
 use Rattle.rules.specs.Ranks.{class-of}
-use Rattle.rules.specs.Walk.{flat, walk}
+use Rattle.rules.specs.Walk.{flat, runs, walk}
 
 -- the contracts of a fill; no other line has any
 abbrev pub traded-in : Line → ℕ
@@ -65,10 +65,32 @@ pub record Exhausts (rule : Sharing) (o : Routed) (at-best : Bool) (balance : �
 abbrev pub One-price : Type 0
 One-price = (rule : Sharing) → Lawful rule → (o : Routed) (at-best : Bool) (balance : ℕ) (run : List Entry) → Tradable balance run → Exhausts rule o at-best balance run
 
--- from price to price: the fills are what the balance lost, and each entry lost what the lines that name it say
+-- a line of the tape that takes contracts from the entry with an id
+abbrev pub names : ℕ → Line → Bool
+names i (Fill id firm size price step) = eqb id i
+names i (Cancel id firm size cause) = eqb id i
+names i (Filled id firm) = false
+names i (Rest id firm size price) = false
+names i (Route id firm size) = false
+
+-- fs is what is left of es: some entries are gone, some have fewer contracts but at least one, and nothing else is altered
+pub data Left-of : List Entry → List Entry → Type 0 where
+  none : Left-of [] []
+  gone : {e : Entry} {es fs : List Entry} → Left-of es fs → Left-of (e ∷ es) fs
+  same : {e : Entry} {es fs : List Entry} → Left-of es fs → Left-of (e ∷ es) (e ∷ fs)
+  fewer : {e : Entry} {es fs : List Entry} (n : ℕ) → 1 ≤ n → n ≤ e .size → Left-of es fs → Left-of (e ∷ es) (resized n e ∷ fs)
+
+-- from price to price: the fills are what the balance lost, and each entry lost what the lines that name it say; no entry has
+-- more than one line, where no other has its id; and what stands there afterwards is left of what stood there, in its order
 pub record Conserves (rule : Sharing) (o : Routed) (national away : Option ℕ) (balance : ℕ) (rs : List (List Entry)) : Type 0 where
   pub pays : walk rule o national away balance rs .balance + total traded-in (walk rule o national away balance rs .lines) ≡ balance
   pub accounts : (i : ℕ) → holding i (walk rule o national away balance rs .run) + total (taken-from i) (walk rule o national away balance rs .lines) ≡ holding i (flat rs)
+  pub once : (i : ℕ) → count (names i) (walk rule o national away balance rs .lines) ≤ count (λ e. eqb (e .id) i) (flat rs)
+  pub leaves : Left-of (flat rs) (walk rule o national away balance rs .run)
+
+-- the runs of one price are the entries of a side
+abbrev pub Runs-are-whole : Type 0
+Runs-are-whole = (es : List Entry) → flat (runs es) ≡ es
 
 abbrev pub All-prices : Type 0
 All-prices = (rule : Sharing) → Lawful rule → (o : Routed) (national away : Option ℕ) (balance : ℕ) (rs : List (List Entry)) → All (Tradable balance) rs → Conserves rule o national away balance rs

@@ -1,5 +1,5 @@
 // First laws of the definitions, each named by a function so that the gate asks for its proof.
-ghost use Rattle.rules.specs.Laws.{One-price, All-prices};
+ghost use Rattle.rules.specs.Laws.{One-price, Runs-are-whole, All-prices};
 
 // At one price, under every lawful rule, the fills add up, nobody gives more than it has, and the order or the price is exhausted.
 pub fn one_price_is_exhausted() -> bool
@@ -8,9 +8,11 @@ pub fn one_price_is_exhausted() -> bool
     true
 }
 
-// From price to price, under every lawful rule, the fills are what the balance lost, and each entry lost what its lines say.
+// From price to price, under every lawful rule, the fills are what the balance lost, each entry lost what its lines say, none
+// has two lines, and what stands there afterwards is left of what stood there, in its order.
 pub fn nothing_is_lost_from_price_to_price() -> bool
-    ensures { λ _. ⌜ All-prices ⌝ }
+    ensures whole { λ _. ⌜ Runs-are-whole ⌝ }
+    ensures laws { λ _. ⌜ All-prices ⌝ }
 {
     true
 }
