@@ -22,7 +22,7 @@ band-is : (r : ℕ) → band-amount r ≡ 4 * collar-amount r
 band-is r = grind (arith, tells)
 
 -- the distance is a multiple of ten cents
-in-tens : (r : ℕ) → (k : ℕ) × (collar-amount r ≡ 10 * k)
+pub in-tens : (r : ℕ) → (k : ℕ) × (collar-amount r ≡ 10 * k)
 in-tens r =
     let P : ℕ → Type 0 = λ n. (k : ℕ) × (n ≡ 10 * k) in
     cond-both (leb r 200) _ _ P (λ _. (2, refl)) (λ _.
@@ -32,7 +32,7 @@ in-tens r =
     cond-both (leb r 5000) _ _ P (λ _. (9, refl)) (λ _.
     cond-both (leb r 10000) _ _ P (λ _. (14, refl)) (λ _. (19, refl)))))))
 
-tick-cases : (tick : ℕ) → is-tick tick ≡ true → (tick ≡ 1) ⊎ ((tick ≡ 5) ⊎ (tick ≡ 10))
+pub tick-cases : (tick : ℕ) → is-tick tick ≡ true → (tick ≡ 1) ⊎ ((tick ≡ 5) ⊎ (tick ≡ 10))
 tick-cases tick valid =
     ⊎-elim (λ one. inl (eqb-true tick 1 one)) (λ more. inr (⊎-elim (λ five. inl (eqb-true tick 5 five)) (λ ten. inr (eqb-true tick 10 ten)) (or-cases (eqb tick 5) (eqb tick 10) more)))
     (or-cases (eqb tick 1) (eqb tick 5 || eqb tick 10) valid)
@@ -65,7 +65,7 @@ rounded-down-by tick r k valid whole le =
     (λ ten. ap (λ t. rounded-down t (4 * (r - 10 * k))) ten ∙ rounded-10 (r - 10 * k) (let w = sym (ap (λ t. r % t) ten) ∙ whole in omega arith)))
     (tick-cases tick valid)
 
-price-whole : (tick r : ℕ) → is-price tick r ≡ true → r % tick ≡ 0
+pub price-whole : (tick r : ℕ) → is-price tick r ≡ true → r % tick ≡ 0
 price-whole tick r valid = eqb-true (r % tick) 0 (and-parts (leb r 1000000) (eqb (r % tick) 0) (and-parts (leb 1 r) (leb r 1000000 && eqb (r % tick) 0) valid .1) .1)
 
 -- a seller's collar, where it is a price and where it is none

@@ -87,13 +87,14 @@ pub record Returning : Type 0 where
 abbrev pub without-row : ℕ → List Routed → List Routed
 without-row i rs = kept-by (λ r. not (eqb (r .id) i)) rs
 
+-- the order is out on a route, and is r
+abbrev pub return-checks : Returning → Model → Routed → List Check
+return-checks c m r = lent-checks (c .tape) (c .sheet) m ((not (eqb (c .series) (m .opening .series)), NotOutHere) ∷ (ltb (r .size) (c .executed), MoreThanRouted) ∷ [])
+
 -- the rest trades again with its old cap and terms, without leave to route
 abbrev pub returned : Sharing → Returning → Model → Option Routed → Outcome
 returned rule c m None = checked (lent-checks (c .tape) (c .sheet) m []) (refused NotOutHere)
-returned rule c m (Some r) =
-    checked
-    (lent-checks (c .tape) (c .sheet) m ((not (eqb (c .series) (m .opening .series)), NotOutHere) ∷ (ltb (r .size) (c .executed), MoreThanRouted) ∷ []))
-    (done (trade rule (sized (r .size - c .executed) r) false (with-out (without-row (c .id) (m .out)) m)))
+returned rule c m (Some r) = checked (return-checks c m r) (done (trade rule (sized (r .size - c .executed) r) false (with-out (without-row (c .id) (m .out)) m)))
 
 unfoldable pub return-of : Sharing → Returning → Model → Outcome
 return-of rule c m = returned rule c m (row-with (c .id) (m .out))
@@ -124,12 +125,14 @@ after-resize c s e m =
 abbrev pub resize-checks : Resizing → List Check → List Check
 resize-checks c cs = (eqb (c .firm) 0, FirmZero) ∷ (not (is-size (c .size)), BadSize) ∷ cs
 
+-- the entry is e
+abbrev pub resting-checks : Resizing → Model → Entry → List Check
+resting-checks c m e = resize-checks c ((not (eqb (e .firm) (c .firm)), AnotherFirms) ∷ (ltb (e .size) (c .size) && ltb 4000000000 (m .counters .last-time), LastTimeReached) ∷ [])
+
 abbrev pub resize-at : Resizing → Model → Standing → Outcome
 resize-at c m nowhere = checked (resize-checks c []) (refused NeitherRestingNorOut)
 resize-at c m (out-on-route r) = checked (resize-checks c ((not (eqb (r .firm) (c .firm)), AnotherFirms) ∷ [])) (refused OutOnRoute)
-resize-at c m (resting s e) =
-    checked (resize-checks c ((not (eqb (e .firm) (c .firm)), AnotherFirms) ∷ (ltb (e .size) (c .size) && ltb 4000000000 (m .counters .last-time), LastTimeReached) ∷ []))
-    (done (record { answer = c .size; lines = []; after = after-resize c s e m; ticket = None }))
+resize-at c m (resting s e) = checked (resting-checks c m e) (done (record { answer = c .size; lines = []; after = after-resize c s e m; ticket = None }))
 
 unfoldable pub resize-of : Resizing → Model → Outcome
 resize-of c m = resize-at c m (standing (c .id) m)
@@ -139,12 +142,14 @@ pub record Cancelling : Type 0 where
   pub id : ℕ
   pub firm : ℕ
 
+-- the order is that firm's
+abbrev pub cancel-checks : Cancelling → ℕ → List Check
+cancel-checks c firm = (eqb (c .firm) 0, FirmZero) ∷ (not (eqb firm (c .firm)), AnotherFirms) ∷ []
+
 abbrev pub cancel-at : Cancelling → Model → Standing → Outcome
 cancel-at c m nowhere = checked ((eqb (c .firm) 0, FirmZero) ∷ []) (refused NeitherRestingNorOut)
-cancel-at c m (out-on-route r) = checked ((eqb (c .firm) 0, FirmZero) ∷ (not (eqb (r .firm) (c .firm)), AnotherFirms) ∷ []) (refused OutOnRoute)
-cancel-at c m (resting s e) =
-    checked ((eqb (c .firm) 0, FirmZero) ∷ (not (eqb (e .firm) (c .firm)), AnotherFirms) ∷ [])
-    (done (record { answer = e .size; lines = []; after = with-entries s (without-entry (c .id) (entries s m)) m; ticket = None }))
+cancel-at c m (out-on-route r) = checked (cancel-checks c (r .firm)) (refused OutOnRoute)
+cancel-at c m (resting s e) = checked (cancel-checks c (e .firm)) (done (record { answer = e .size; lines = []; after = with-entries s (without-entry (c .id) (entries s m)) m; ticket = None }))
 
 unfoldable pub cancel-of : Cancelling → Model → Outcome
 cancel-of c m = cancel-at c m (standing (c .id) m)
@@ -154,8 +159,11 @@ pub record Updating : Type 0 where
   pub side : Side
   pub price : Option ℕ
 
+abbrev pub market-checks : Updating → Model → List Check
+market-checks c m = (bad-price (m .opening .tick) (c .price), BadPrice) ∷ []
+
 unfoldable pub market-of : Updating → Model → Outcome
-market-of c m = checked ((bad-price (m .opening .tick) (c .price), BadPrice) ∷ []) (done (record { answer = 0; lines = []; after = with-away (c .side) (c .price) m; ticket = None }))
+market-of c m = checked (market-checks c m) (done (record { answer = 0; lines = []; after = with-away (c .side) (c .price) m; ticket = None }))
 
 abbrev pub bad-places : ℕ → Bool
 bad-places n = eqb n 0 || ltb 256 n
@@ -164,7 +172,8 @@ bad-places n = eqb n 0 || ltb 256 n
 abbrev pub opened : Opening → Model
 opened c = record { bids = []; offers = []; out = []; away-bid = None; away-offer = None; counters = record { last-id = 0; last-time = 0 }; opening = c }
 
+abbrev pub opening-checks : Opening → List Check
+opening-checks c = (bad-places (c .bid-places) || bad-places (c .offer-places), BadPlaces) ∷ (not (is-tick (c .tick)) || eqb (c .series) 0, BadTickOrSeries) ∷ []
+
 unfoldable pub opening-of : Opening → Outcome
-opening-of c =
-    checked ((bad-places (c .bid-places) || bad-places (c .offer-places), BadPlaces) ∷ (not (is-tick (c .tick)) || eqb (c .series) 0, BadTickOrSeries) ∷ [])
-    (done (record { answer = 0; lines = []; after = opened c; ticket = None }))
+opening-of c = checked (opening-checks c) (done (record { answer = 0; lines = []; after = opened c; ticket = None }))

@@ -12,5 +12,6 @@ pub mod Prices
 pub mod Ranks
 pub mod Rulebook
 pub mod Sides
+pub mod Sound
 pub mod Trade
 pub mod Walk

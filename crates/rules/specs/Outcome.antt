@@ -60,13 +60,16 @@ pub data Standing : Type 0 where
   out-on-route : Routed → Standing
   nowhere : Standing
 
+-- the first with an id
+abbrev pub found-in : {X : Type 0} → (X → ℕ) → ℕ → List X → Option X
+found-in id i [] = None
+found-in id i (x ∷ xs) = cond (eqb (id x) i) (Some x) (found-in id i xs)
+
 abbrev pub entry-with : ℕ → List Entry → Option Entry
-entry-with i [] = None
-entry-with i (e ∷ es) = cond (eqb (e .id) i) (Some e) (entry-with i es)
+entry-with i es = found-in (λ e. e .id) i es
 
 abbrev pub row-with : ℕ → List Routed → Option Routed
-row-with i [] = None
-row-with i (r ∷ rs) = cond (eqb (r .id) i) (Some r) (row-with i rs)
+row-with i rs = found-in (λ r. r .id) i rs
 
 abbrev pub standing-by : Option Entry → Option Entry → Option Routed → Standing
 standing-by (Some e) o r = resting Buy e

@@ -14,6 +14,7 @@ pub use caps::collar_distance;
 pub use examples::worked_examples;
 pub use guarantee::for_the_group;
 pub use guarantee::least_for_the_group;
+pub use laws::every_call_keeps_the_book_sound;
 pub use laws::nothing_is_lost_from_price_to_price;
 pub use laws::one_price_is_exhausted;
 pub use numbers::Cause;
