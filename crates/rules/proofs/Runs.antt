@@ -1,4 +1,4 @@
--- In a sound side every run of one price can be traded with, so a rule is only asked what it may be. Assumes nothing.
+-- In a sound side what stands at each price meets what the laws of a price ask. Assumes nothing.
 use mathlib.Core.Path.{_≡_, refl, sym, ap, subst, _∙_}
 use mathlib.Core.Bool.{Bool, true, false, cond}
 use mathlib.Core.List.{List, [], _∷_}

@@ -78,6 +78,6 @@ pub record Kept : Type 0 where
   pub entry : (rule : Sharing) (c : Entering) (m : Model) → Sound m → Keeps (entry-of rule c m)
   pub return : (rule : Sharing) (c : Returning) (m : Model) → Sound m → Keeps (return-of rule c m)
 
--- in a sound book every run of one price can be traded with, so a rule is asked nothing but what it may be
+-- in a sound book what stands at each price meets what the laws of a price ask
 abbrev pub Always-tradable : Type 0
 Always-tradable = (m : Model) → Sound m → (s : Side) (balance : ℕ) → balance < 100000 → All (Tradable balance) (runs (entries s m))

@@ -19,7 +19,7 @@ pub fn nothing_is_lost_from_price_to_price() -> bool
 }
 
 // Every accepted call, under whatever rule, leaves the book sound: sides in rank, sizes and prices in range, ids unique, and
-// the last working time with the orders out at most 4,000,000,017. In a sound book a rule is asked nothing but what it may be.
+// the last working time with the orders out at most 4,000,000,017. In a sound book the laws above can be asked of every price.
 pub fn every_call_keeps_the_book_sound() -> bool
     ensures kept { λ _. ⌜ Kept ⌝ }
     ensures tradable { λ _. ⌜ Always-tradable ⌝ }
