@@ -1,4 +1,6 @@
 // The book of one series and its public calls.
+#![tactic(auto)]
+
 mod cancel;
 mod edits;
 mod ending;

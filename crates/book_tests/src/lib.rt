@@ -1,4 +1,6 @@
 // Tests of the book's public calls, worked by hand from the rules.
+#![tactic(auto)]
+
 #[cfg(test)]
 mod calls;
 #[cfg(test)]

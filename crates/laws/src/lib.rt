@@ -1,4 +1,6 @@
 // The laws over whole histories of calls, each named by a function so that the gate asks for its proof. The terms are in specs/.
+#![tactic(auto)]
+
 ghost use Rattle.laws.specs.Lawful.{EveryHistory, EveryCall};
 ghost use Rattle.laws.specs.Worked.{WorkedHistory};
 

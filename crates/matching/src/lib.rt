@@ -1,4 +1,6 @@
 // Matching: one price in five steps, and the walk from price to price, in the places of a side.
+#![tactic(auto)]
+
 mod parts;
 mod price;
 mod prices;

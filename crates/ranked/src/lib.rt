@@ -1,4 +1,6 @@
 // A list kept in the order of its elements' ranks, over places that somebody else owns.
+#![tactic(auto)]
+
 mod list;
 mod places;
 mod ranking;

@@ -1,4 +1,6 @@
 // Replays a sheet of calls, read from standard input, on a book.
+#![tactic(auto)]
+
 mod desk;
 mod printing;
 mod reading;

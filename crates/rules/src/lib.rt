@@ -1,4 +1,6 @@
 // The terms of the venue as types, and its rules as small proved functions. What a call does is defined in specs/.
+#![tactic(auto)]
+
 mod caps;
 mod checks;
 mod examples;

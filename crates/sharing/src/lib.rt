@@ -1,4 +1,6 @@
 // How an amount of contracts is divided over the claims of those who would trade it.
+#![tactic(auto)]
+
 mod by_time;
 mod claims;
 mod examples;

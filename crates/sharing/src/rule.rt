@@ -39,7 +39,7 @@ fn total_allotted(claims: &[Claim]) -> u32
 // Shares an amount by any rule, and answers how many contracts were allotted: all that the amount and the sizes allow.
 pub fn share_out<R: Rule>(rule: &R, amount: u32, claims: &mut [Claim]) -> u32
     requires { Shareable amount claims.old }
-    ensures after { claims.new ≡ allotted ((meaning rule.now).allotments amount claims.old) claims.old }
+    ensures after { claims.new ≡ allotted ((R.meaning rule.now).allotments amount claims.old) claims.old }
     ensures value { result ≡ min amount (total size_of claims.old) }
     ensures again { Shareable amount claims.new }
 {

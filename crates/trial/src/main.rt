@@ -1,4 +1,6 @@
 // The trial program: one sharing by each rule, printed claim by claim; the collars and caps of some orders; a guarantee.
+#![tactic(auto)]
+
 ghost use Rattle.sharing.specs.Claims.{Shareable};
 
 use rules::{Kind, Order, Side, Term, for_the_group};

@@ -18,8 +18,8 @@ returns-in-Buy c =
     record {
       fits = record { bids = omega (arith, length-set xs at e, c.requires.fits.bids); offers = c.requires.fits.offers; out = c.requires.fits.out; rows = c.requires.fits.rows };
       after = with_new Buy c.args.side c.in-Buy.is m (λ x. set (entries x m) at e) (take n (set xs at e)) (length (set xs at e)) (take_of_set n xs at e) (length-set xs at e);
-      bid-lender = refl;
-      offer-lender = refl;
+      bid_lender = refl;
+      offer_lender = refl;
     }
 
 pub returns-in-Sell : goal.returns-in-Sell
@@ -33,6 +33,6 @@ returns-in-Sell c =
     record {
       fits = record { bids = c.requires.fits.bids; offers = omega (arith, length-set xs at e, c.requires.fits.offers); out = c.requires.fits.out; rows = c.requires.fits.rows };
       after = with_new Sell c.args.side c.in-Sell.is m (λ x. set (entries x m) at e) (take n (set xs at e)) (length (set xs at e)) (take_of_set n xs at e) (length-set xs at e);
-      bid-lender = refl;
-      offer-lender = refl;
+      bid_lender = refl;
+      offer_lender = refl;
     }

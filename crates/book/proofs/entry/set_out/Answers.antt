@@ -12,7 +12,7 @@ pub returns-then-room-order : goal.returns-then-room-order
 returns-then-room-order g c =
     let m = model c.args.state.now in
     let u : Entering = record { order = c.args.order.now; tape = length c.args.tape.now; sheet = length c.args.sheet.now } in
-    let is = sym (carried_missed (g.R.Rule.meaning c.args.rule.now) u m c.going-going.result c.cap-for-cap.result c.available-to-room.result c.cap-for-cap.ensures c.going-going.ensures c.available-to-room.ensures c.if-room-order.true) in
+    let is = sym (carried_missed (g.R.Rule.meaning c.args.rule.now) u m c.going-going.result c.cap_for-cap.result c.available_to-room.result c.cap_for-cap.ensures c.going-going.ensures c.available_to-room.ensures c.if-room-order.true) in
     record {
       after = ap (λ (d : Done). d.after) is;
       tape = written_one _ c.args.tape.now (omega (arith, tape_room u m c.requires.accepted)) ∙ ap (λ (d : Done). written 0 d.lines c.args.tape.now) is;
@@ -20,8 +20,8 @@ returns-then-room-order g c =
       routed = ap (λ (d : Done). is_some d.ticket) is;
       sheet = refl;
       fits = record { bids = c.requires.fits.bids; offers = c.requires.fits.offers; out = c.requires.fits.out; rows = c.requires.fits.rows };
-      bid-lender = refl;
-      offer-lender = refl;
+      bid_lender = refl;
+      offer_lender = refl;
     }
 
 pub trade-requires : goal.trade-requires
@@ -42,7 +42,7 @@ pub returns : goal.returns
 returns g c =
     let m = model c.args.state.now in
     let u : Entering = record { order = c.args.order.now; tape = length c.args.tape.now; sheet = length c.args.sheet.now } in
-    let is = sym (carried_trade (g.R.Rule.meaning c.args.rule.now) u m c.going-going.result c.cap-for-cap.result c.available-to-room.result c.cap-for-cap.ensures c.going-going.ensures c.available-to-room.ensures c.if-room-order.false) in
+    let is = sym (carried_trade (g.R.Rule.meaning c.args.rule.now) u m c.going-going.result c.cap_for-cap.result c.available_to-room.result c.cap_for-cap.ensures c.going-going.ensures c.available_to-room.ensures c.if-room-order.false) in
     let e = c.trade.ensures in
     record {
       after = e.after ∙ ap (λ (d : Done). d.after) is;
@@ -51,6 +51,6 @@ returns g c =
       routed = e.routed ∙ ap (λ (d : Done). is_some d.ticket) is;
       sheet = e.sheet;
       fits = e.fits;
-      bid-lender = e.bid-lender;
-      offer-lender = e.offer-lender;
+      bid_lender = e.bid_lender;
+      offer_lender = e.offer_lender;
     }

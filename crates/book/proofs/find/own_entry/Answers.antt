@@ -24,13 +24,13 @@ returns-else-state-at c =
     own_out c.args.id c.args.firm (model s) (get_or (model s).out c.in-Out.at no_row) (there.1 no_row) (sym (ap (λ r. r.firm) same) ∙ c.if-state-at.false)
 
 pub returns-then-entry-firm : goal.returns-then-entry-firm
-returns-then-entry-firm c = anothers_entry c.args.id c.args.firm (model c.args.state.now) c.in-Resting.side c.in-Resting.at c.entry-at-entry.result c.in-Resting.ensures c.entry-at-entry.ensures c.if-entry-firm.true
+returns-then-entry-firm c = anothers_entry c.args.id c.args.firm (model c.args.state.now) c.in-Resting.side c.in-Resting.at c.entry_at-entry.result c.in-Resting.ensures c.entry_at-entry.ensures c.if-entry-firm.true
 
 pub returns-else-entry-firm : goal.returns-else-entry-firm
-returns-else-entry-firm c = its_entry c.args.id c.args.firm (model c.args.state.now) c.in-Resting.side c.in-Resting.at c.entry-at-entry.result c.in-Resting.ensures c.entry-at-entry.ensures c.if-entry-firm.false
+returns-else-entry-firm c = its_entry c.args.id c.args.firm (model c.args.state.now) c.in-Resting.side c.in-Resting.at c.entry_at-entry.result c.in-Resting.ensures c.entry_at-entry.ensures c.if-entry-firm.false
 
 pub bounds-state-at : goal.bounds-state-at
 bounds-state-at c = omega (arith, c.in-Out.ensures.0, length-take c.args.state.now.out_count c.args.state.now.out, c.requires.out)
 
-pub offset-bounds-state-at : goal.offset-bounds-state-at
-offset-bounds-state-at c = let lt : c.in-Out.at < 16 = omega (arith, c.in-Out.ensures.0, length-take c.args.state.now.out_count c.args.state.now.out, c.requires.out) in search rules
+pub offset_bounds-state-at : goal.offset_bounds-state-at
+offset_bounds-state-at c = let lt : c.in-Out.at < 16 = omega (arith, c.in-Out.ensures.0, length-take c.args.state.now.out_count c.args.state.now.out, c.requires.out) in search rules

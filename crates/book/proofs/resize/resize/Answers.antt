@@ -12,38 +12,38 @@ pub returns-then-firm-eq0 : goal.returns-then-firm-eq0
 returns-then-firm-eq0 c =
     let m = model c.args.state.now in
     let k : Resizing = record { id = c.args.id; firm = c.args.firm; size = c.args.size } in
-    record { outcome = refuses (resize_of k m) FirmZero m (no_firm k m c.if-firm-eq0.true); fits = c.requires.fits; bid_places = refl; offer_places = refl; bid-lender = refl; offer-lender = refl }
+    record { outcome = refuses (resize_of k m) FirmZero m (no_firm k m c.if-firm-eq0.true); fits = c.requires.fits; bid_places = refl; offer_places = refl; bid_lender = refl; offer_lender = refl }
 
-pub returns-then-not-valid-size : goal.returns-then-not-valid-size
-returns-then-not-valid-size c =
+pub returns-then-not-valid_size : goal.returns-then-not-valid_size
+returns-then-not-valid_size c =
     let m = model c.args.state.now in
     let k : Resizing = record { id = c.args.id; firm = c.args.firm; size = c.args.size } in
-    record { outcome = refuses (resize_of k m) BadSize m (no_size k m c.if-firm-eq0.false (sym c.valid-size.ensures ∙ c.if-not-valid-size.true)); fits = c.requires.fits; bid_places = refl; offer_places = refl; bid-lender = refl; offer-lender = refl }
+    record { outcome = refuses (resize_of k m) BadSize m (no_size k m c.if-firm-eq0.false (sym c.valid_size.ensures ∙ c.if-not-valid_size.true)); fits = c.requires.fits; bid_places = refl; offer_places = refl; bid_lender = refl; offer_lender = refl }
 
 pub returns-in-Err : goal.returns-in-Err
 returns-in-Err c =
     let m = model c.args.state.now in
     let k : Resizing = record { id = c.args.id; firm = c.args.firm; size = c.args.size } in
     let why = c.in-Err.why in
-    let size = sym c.valid-size.ensures ∙ c.if-not-valid-size.false in
-    record { outcome = refuses (resize_of k m) why m (not_resized k m c.if-firm-eq0.false size why c.in-Err.ensures); fits = c.requires.fits; bid_places = refl; offer_places = refl; bid-lender = refl; offer-lender = refl }
+    let size = sym c.valid_size.ensures ∙ c.if-not-valid_size.false in
+    record { outcome = refuses (resize_of k m) why m (not_resized k m c.if-firm-eq0.false size why c.in-Err.ensures); fits = c.requires.fits; bid_places = refl; offer_places = refl; bid_lender = refl; offer_lender = refl }
 
 pub returns-then-size-e : goal.returns-then-size-e
 returns-then-size-e c =
     let m = model c.args.state.now in
-    let n = model c.replace-at.new.state in
+    let n = model c.replace_at.new.state in
     let k : Resizing = record { id = c.args.id; firm = c.args.firm; size = c.args.size } in
     let own = c.in-Ok.own_val in
-    let size = sym c.valid-size.ensures ∙ c.if-not-valid-size.false in
-    let done = c.replace-at.ensures in
+    let size = sym c.valid_size.ensures ∙ c.if-not-valid_size.false in
+    let done = c.replace_at.ensures in
     let same = same_opening own.side (set (entries own.side m) own.at (resized k.size own.entry)) m n done.after in
     record {
       outcome = settles_smaller k m n own c.if-firm-eq0.false size c.requires.sound c.in-Ok.ensures c.if-size-e.true done.after;
       fits = done.fits;
       bid_places = ap (λ o. o.bid_places) same;
       offer_places = ap (λ o. o.offer_places) same;
-      bid-lender = done.bid-lender;
-      offer-lender = done.offer-lender;
+      bid_lender = done.bid_lender;
+      offer_lender = done.offer_lender;
     }
 
 pub returns-then-last-gt4000000000 : goal.returns-then-last-gt4000000000
@@ -52,16 +52,16 @@ returns-then-last-gt4000000000 c =
     let k : Resizing = record { id = c.args.id; firm = c.args.firm; size = c.args.size } in
     let own = c.in-Ok.own_val in
     let its = c.in-Ok.ensures in
-    let size = sym c.valid-size.ensures ∙ c.if-not-valid-size.false in
-    record { outcome = refuses (resize_of k m) LastTimeReached m (no_time k m c.if-firm-eq0.false size own.side own.entry its.stands its.firm_is (omega (arith, c.if-size-e.false)) c.if-last-gt4000000000.true); fits = c.requires.fits; bid_places = refl; offer_places = refl; bid-lender = refl; offer-lender = refl }
+    let size = sym c.valid_size.ensures ∙ c.if-not-valid_size.false in
+    record { outcome = refuses (resize_of k m) LastTimeReached m (no_time k m c.if-firm-eq0.false size own.side own.entry its.stands its.firm_is (omega (arith, c.if-size-e.false)) c.if-last-gt4000000000.true); fits = c.requires.fits; bid_places = refl; offer_places = refl; bid_lender = refl; offer_lender = refl }
 
-pub put-entry-requires : goal.put-entry-requires
-put-entry-requires c =
+pub put_entry-requires : goal.put_entry-requires
+put_entry-requires c =
     let m = model c.args.state.now in
-    let n = model c.remove-at.new.state in
+    let n = model c.remove_at.new.state in
     let own = c.in-Ok.own_val in
     let its = c.in-Ok.ensures in
-    let gone = c.remove-at.ensures in
+    let gone = c.remove_at.ensures in
     record {
       fits = gone.fits;
       room = has_room c.args.id c.args.firm m n own c.requires.sound its gone.after;
@@ -71,19 +71,19 @@ put-entry-requires c =
 pub returns-else-last-gt4000000000 : goal.returns-else-last-gt4000000000
 returns-else-last-gt4000000000 c =
     let m = model c.args.state.now in
-    let o = model c.remove-at.new.state in
-    let n = model c.put-entry.new.state in
+    let o = model c.remove_at.new.state in
+    let n = model c.put_entry.new.state in
     let k : Resizing = record { id = c.args.id; firm = c.args.firm; size = c.args.size } in
     let own = c.in-Ok.own_val in
-    let size = sym c.valid-size.ensures ∙ c.if-not-valid-size.false in
-    let gone = c.remove-at.ensures in
-    let come = c.put-entry.ensures in
+    let size = sym c.valid_size.ensures ∙ c.if-not-valid_size.false in
+    let gone = c.remove_at.ensures in
+    let come = c.put_entry.ensures in
     let same = same_after_both own.side _ _ _ m o n gone.after come.after in
     record {
       outcome = settles_larger k m n own c.if-firm-eq0.false size c.requires.sound c.in-Ok.ensures o (omega (arith, c.if-size-e.false)) (omega (arith, c.if-last-gt4000000000.false)) gone.after come.after;
       fits = come.fits;
       bid_places = ap (λ x. x.bid_places) same;
       offer_places = ap (λ x. x.offer_places) same;
-      bid-lender = come.bid-lender ∙ gone.bid-lender;
-      offer-lender = come.offer-lender ∙ gone.offer-lender;
+      bid_lender = come.bid_lender ∙ gone.bid_lender;
+      offer_lender = come.offer_lender ∙ gone.offer_lender;
     }

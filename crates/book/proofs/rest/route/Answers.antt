@@ -12,6 +12,6 @@ returns c =
     record {
       after = ap (λ rows. with_out rows (model s)) (take_more_set s.out s.out_count row (omega (arith, c.requires.room, c.requires.fits.rows)));
       fits = record { bids = c.requires.fits.bids; offers = c.requires.fits.offers; out = omega (arith, c.requires.room); rows = length-set s.out s.out_count row ∙ c.requires.fits.rows };
-      bid-lender = refl;
-      offer-lender = refl;
+      bid_lender = refl;
+      offer_lender = refl;
     }

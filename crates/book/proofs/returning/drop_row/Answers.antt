@@ -19,4 +19,4 @@ returns c =
     let xs = c.args.rows.now in
     let n = c.args.len in
     let here : c.loop-i.i ≡ n = omega arith in
-    c.loop-i.invariant ∙ ap (closed xs c.args.at) here ∙ closed_all xs c.args.at n c.requires.at-within
+    c.loop-i.invariant ∙ ap (closed xs c.args.at) here ∙ closed_all xs c.args.at n c.requires.at_within

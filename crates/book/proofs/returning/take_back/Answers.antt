@@ -9,8 +9,8 @@ use Rattle.book.proofs.Entered.{trade_answer}
 use Rattle.book.proofs.Returned.{row_good, row_read, enough, tape_lent, sheet_lent, still_rows, gone_sound, back_done}
 use Rattle.book.proofs.returning.take_back.Goals as goal
 
-pub overflow-sub-row : goal.overflow-sub-row
-overflow-sub-row g c =
+pub overflow_sub-row : goal.overflow_sub-row
+overflow_sub-row g c =
     let s = c.args.state.now in
     let u : Returning = record { series = c.args.series; id = c.args.id; executed = c.args.executed; tape = length c.args.tape.now; sheet = length c.args.sheet.now } in
     omega (arith, enough u (model s) c.args.at c.requires.comes, ap (λ r. r.size) (row_read u s c.args.at c.requires.comes))
@@ -20,11 +20,11 @@ trade-requires g c =
     let s = c.args.state.now in
     let u : Returning = record { series = c.args.series; id = c.args.id; executed = c.args.executed; tape = length c.args.tape.now; sheet = length c.args.sheet.now } in
     let at = c.args.at in
-    let after = c.drop-row.new.rows in
+    let after = c.drop_row.new.rows in
     record {
-      sound = gone_sound u s at c.requires.sound c.requires.fits c.requires.comes after c.drop-row.ensures;
-      fits = record { bids = c.requires.fits.bids; offers = c.requires.fits.offers; out = omega (arith, c.requires.fits.out); rows = still_rows u s at c.requires.sound c.requires.fits c.requires.comes after c.drop-row.ensures };
-      size = omega (arith, ap (λ r. r.size) c.with-size-back.ensures, (row_good u (model s) at c.requires.comes c.requires.sound).size, ap (λ r. r.size) (row_read u s at c.requires.comes));
+      sound = gone_sound u s at c.requires.sound c.requires.fits c.requires.comes after c.drop_row.ensures;
+      fits = record { bids = c.requires.fits.bids; offers = c.requires.fits.offers; out = omega (arith, c.requires.fits.out); rows = still_rows u s at c.requires.sound c.requires.fits c.requires.comes after c.drop_row.ensures };
+      size = omega (arith, ap (λ r. r.size) c.with_size-back.ensures, (row_good u (model s) at c.requires.comes c.requires.sound).size, ap (λ r. r.size) (row_read u s at c.requires.comes));
       rows = λ impossible. absurd (false≢true impossible);
       tape = tape_lent u (model s) at c.requires.comes;
       sheet = sheet_lent u (model s) at c.requires.comes;
@@ -35,13 +35,13 @@ returns g c =
     let s = c.args.state.now in
     let m = model s in
     let u : Returning = record { series = c.args.series; id = c.args.id; executed = c.args.executed; tape = length c.args.tape.now; sheet = length c.args.sheet.now } in
-    let is = sym (back_done u s c.args.at c.requires.sound c.requires.fits c.requires.comes c.drop-row.new.rows c.drop-row.ensures (g.R.Rule.meaning c.args.rule.now) c.with-size-back.result c.with-size-back.ensures) in
+    let is = sym (back_done u s c.args.at c.requires.sound c.requires.fits c.requires.comes c.drop_row.new.rows c.drop_row.ensures (g.R.Rule.meaning c.args.rule.now) c.with_size-back.result c.with_size-back.ensures) in
     let e = c.trade.ensures in
     record {
       outcome = subst (λ o. Settles {A = Traded} o m (Ok c.trade.result) (model c.trade.new.state) (λ d a. (a.lines ≡ d.answer) × (a.routed ≡ is_some d.ticket))) is (e.after, (e.lines ∙ trade_answer _ _ _ _, e.routed));
       tape = e.tape ∙ ap (λ o. taped o c.args.tape.now) is;
       sheet = e.sheet;
       fits = e.fits;
-      bid-lender = e.bid-lender;
-      offer-lender = e.offer-lender;
+      bid_lender = e.bid_lender;
+      offer_lender = e.offer_lender;
     }

@@ -21,9 +21,9 @@ by_side o may_route balance m s n e is count said =
 pub returns-in-Buy : goal.returns-in-Buy
 returns-in-Buy c =
     let s = c.args.state.now in
-    by_side c.args.order.now c.args.may-route c.args.balance (model s) Buy s.bid_count (meant c.end-at.result) c.in-Buy.is (length-take-le s.bid_count s.bids.now c.requires.bids) c.end-at.ensures
+    by_side c.args.order.now c.args.may_route c.args.balance (model s) Buy s.bid_count (meant c.end_at.result) c.in-Buy.is (length-take-le s.bid_count s.bids.now c.requires.bids) c.end_at.ensures
 
 pub returns-in-Sell : goal.returns-in-Sell
 returns-in-Sell c =
     let s = c.args.state.now in
-    by_side c.args.order.now c.args.may-route c.args.balance (model s) Sell s.offer_count (meant c.end-at-in-Sell.result) c.in-Sell.is (length-take-le s.offer_count s.offers.now c.requires.offers) c.end-at-in-Sell.ensures
+    by_side c.args.order.now c.args.may_route c.args.balance (model s) Sell s.offer_count (meant c.end_at-in-Sell.result) c.in-Sell.is (length-take-le s.offer_count s.offers.now c.requires.offers) c.end_at-in-Sell.ensures

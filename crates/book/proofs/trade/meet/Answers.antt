@@ -31,8 +31,8 @@ returns-in-Buy g c =
     let o = c.args.order.now in
     let rule = g.R.Rule.meaning c.args.rule.now in
     let is = c.in-Buy.is in
-    let near = c.national-best-national.result in
-    let nation = c.national-best-national.ensures in
+    let near = c.national_best-national.result in
+    let nation = c.national_best-national.ensures in
     let w = c.walk-walked in
     record {
       after = left_offers rule o m is w.result.len w.new.places (met_run rule o m Buy is near nation w.result.len w.new.places w.ensures.entries) w.ensures.places;
@@ -41,8 +41,8 @@ returns-in-Buy g c =
       tape = met_tape rule o m Buy is near nation c.args.tape.now w.new.tape w.ensures.tape;
       sheet = w.ensures.sheet;
       fits = record { bids = c.requires.fits.bids; offers = met_within rule o m Buy is near nation w.result.len w.new.places w.ensures.len w.ensures.entries; out = c.requires.fits.out; rows = c.requires.fits.rows };
-      bid-lender = refl {a = c.args.state.now.bids.ghost_name};
-      offer-lender = refl {a = c.args.state.now.offers.ghost_name};
+      bid_lender = refl {a = c.args.state.now.bids.ghost_name};
+      offer_lender = refl {a = c.args.state.now.offers.ghost_name};
     }
 
 pub returns-in-Sell : goal.returns-in-Sell
@@ -51,8 +51,8 @@ returns-in-Sell g c =
     let o = c.args.order.now in
     let rule = g.R.Rule.meaning c.args.rule.now in
     let is = c.in-Sell.is in
-    let near = c.national-best-national-in-Sell.result in
-    let nation = c.national-best-national-in-Sell.ensures in
+    let near = c.national_best-national-in-Sell.result in
+    let nation = c.national_best-national-in-Sell.ensures in
     let w = c.walk-walked-in-Sell in
     record {
       after = left_bids rule o m is w.result.len w.new.places (met_run rule o m Sell is near nation w.result.len w.new.places w.ensures.entries) w.ensures.places;
@@ -61,6 +61,6 @@ returns-in-Sell g c =
       tape = met_tape rule o m Sell is near nation c.args.tape.now w.new.tape w.ensures.tape;
       sheet = w.ensures.sheet;
       fits = record { bids = met_within rule o m Sell is near nation w.result.len w.new.places w.ensures.len w.ensures.entries; offers = c.requires.fits.offers; out = c.requires.fits.out; rows = c.requires.fits.rows };
-      bid-lender = refl {a = c.args.state.now.bids.ghost_name};
-      offer-lender = refl {a = c.args.state.now.offers.ghost_name};
+      bid_lender = refl {a = c.args.state.now.bids.ghost_name};
+      offer_lender = refl {a = c.args.state.now.offers.ghost_name};
     }

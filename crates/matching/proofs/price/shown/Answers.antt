@@ -7,8 +7,8 @@ use Rattle.matching.proofs.Shown.{no_entry, adds, adds_within, shown_is}
 use Rattle.matching.proofs.price.shown.Goals as goal
 use Rattle.matching.proofs.price.shown.Goals.{then-takes, else-takes}
 
-pub overflow-add-sum : goal.overflow-add-sum
-overflow-add-sum c =
+pub overflow_add-sum : goal.overflow_add-sum
+overflow_add-sum c =
     let f = adds (part_test c.args.part) in
     let run = c.args.run.now in
     let i = c.loop-i.i in

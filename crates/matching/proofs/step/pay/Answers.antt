@@ -19,20 +19,20 @@ loop-i-init c =
 claim_here : (c : goal.Then-has) → c.loop-i.j < length c.args.sheet.now
 claim_here c = turn_claim c.args.sheet.now c.loop-i.invariant (omega arith) c.if-e-gt0.true c.if-has.ensures
 
-pub offset-bounds-sheet-j : goal.offset-bounds-sheet-j
-offset-bounds-sheet-j c = let claim = claim_here c in search rules
+pub offset_bounds-sheet-j : goal.offset_bounds-sheet-j
+offset_bounds-sheet-j c = let claim = claim_here c in search rules
 
 pub bounds-sheet-j : goal.bounds-sheet-j
 bounds-sheet-j c = claim_here c
 
-pub overflow-add-j : goal.overflow-add-j
-overflow-add-j c = let claim = claim_here c in search rules
+pub overflow_add-j : goal.overflow_add-j
+overflow_add-j c = let claim = claim_here c in search rules
 
 pub bounds-tape-at : goal.bounds-tape-at
 bounds-tape-at c = omega (arith, c.requires.room, c.loop-i.auto.tape, turn_room c.args.sheet.now c.loop-i.invariant (omega arith) c.if-e-gt0.true c.if-has.ensures c.if-n-gt0.true)
 
-pub overflow-sub-run : goal.overflow-sub-run
-overflow-sub-run c = turn_within c.args.sheet.now c.loop-i.invariant (omega arith) c.if-e-gt0.true c.if-has.ensures
+pub overflow_sub-run : goal.overflow_sub-run
+overflow_sub-run c = turn_within c.args.sheet.now c.loop-i.invariant (omega arith) c.if-e-gt0.true c.if-has.ensures
 
 pub loop-i-preserved : goal.loop-i-preserved
 loop-i-preserved c =

@@ -6,5 +6,5 @@ pub returns : goal.returns
 returns c =
     record {
       examples = worked;
-      value = λ t. c.collar.ensures.value t ∷ c.collar-2.ensures.value t ∷ c.collar-3.ensures.value t ∷ c.for-the-group.ensures t ∷ c.for-the-group-2.ensures t ∷ [];
+      value = λ t. c.collar.ensures.value t ∷ c.collar-2.ensures.value t ∷ c.collar-3.ensures.value t ∷ c.for_the_group.ensures t ∷ c.for_the_group-2.ensures t ∷ [];
     }

@@ -5,8 +5,8 @@ use Rattle.sharing.specs.Totals.{total}
 use Rattle.sharing.specs.Allotted.{no_claim, total_more, total_part}
 use Rattle.sharing.proofs.rule.total_allotted.Goals as goal
 
-pub overflow-add-sum : goal.overflow-add-sum
-overflow-add-sum c =
+pub overflow_add-sum : goal.overflow_add-sum
+overflow_add-sum c =
     let cs = c.args.claims.now in
     let i = c.loop-c.c-index in
     omega (arith, c.loop-c.invariant, c.requires, total_more allotment_of cs i no_claim c.loop-c-test.true, total_part allotment_of cs (i + 1))

@@ -13,8 +13,8 @@ use Rattle.book.proofs.keeping.Book.enter.Goals as goal
 pub enter-requires : goal.enter-requires
 enter-requires g c = record { sound = sound_of (model c.args.self.now.state) c.args.self.now.sound; fits = fits_of c.args.self.now.state c.args.self.now.fits }
 
-pub invariant-of-self : goal.invariant-of-self
-invariant-of-self g c =
+pub invariant_of-self : goal.invariant_of-self
+invariant_of-self g c =
     let m = model c.args.self.now.state in
     let u : Entering = record { order = c.args.order.now; tape = length c.args.tape.now; sheet = length c.args.sheet.now } in
     let rule = g.R.Rule.meaning c.args.rule.now in
@@ -42,8 +42,8 @@ returns-in-Ok g c =
     let rule = g.R.Rule.meaning c.args.rule.now in
     let e = c.in-Ok.ensures in
     record {
-      outcome = settles_other (entry_of rule u m) m (model c.enter.new.state) c.in-Ok.traded (record { lines = c.in-Ok.traded.lines; ticket = c.ticket-for-ticket.result }) (λ d a. (a.lines ≡ d.answer) × (a.routed ≡ is_some d.ticket)) (λ d a. (a.lines ≡ d.answer) × Gives c.args.self.now.state.series d.ticket a.ticket)
-          (λ d is fits. (fits.0, entry_gives rule u m d is c.in-Ok.traded.routed fits.1 c.args.self.now.state.series c.ticket-for-ticket.result c.ticket-for-ticket.ensures))
+      outcome = settles_other (entry_of rule u m) m (model c.enter.new.state) c.in-Ok.traded (record { lines = c.in-Ok.traded.lines; ticket = c.ticket_for-ticket.result }) (λ d a. (a.lines ≡ d.answer) × (a.routed ≡ is_some d.ticket)) (λ d a. (a.lines ≡ d.answer) × Gives c.args.self.now.state.series d.ticket a.ticket)
+          (λ d is fits. (fits.0, entry_gives rule u m d is c.in-Ok.traded.routed fits.1 c.args.self.now.state.series c.ticket_for-ticket.result c.ticket_for-ticket.ensures))
           e.outcome;
       tape = e.tape;
       sheet = λ refused. absurd (true≢false refused);

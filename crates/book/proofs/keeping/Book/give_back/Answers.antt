@@ -9,16 +9,16 @@ use Rattle.book.proofs.Settled.{settled_sound, stays_lawful}
 use Rattle.book.proofs.Tickets.{returns_refused, returns_done}
 use Rattle.book.proofs.keeping.Book.give_back.Goals as goal
 
-pub give-back-requires : goal.give-back-requires
-give-back-requires g c = record { sound = sound_of (model c.args.self.now.state) c.args.self.now.sound; fits = fits_of c.args.self.now.state c.args.self.now.fits }
+pub give_back-requires : goal.give_back-requires
+give_back-requires g c = record { sound = sound_of (model c.args.self.now.state) c.args.self.now.sound; fits = fits_of c.args.self.now.state c.args.self.now.fits }
 
-pub invariant-of-self : goal.invariant-of-self
-invariant-of-self g c =
+pub invariant_of-self : goal.invariant_of-self
+invariant_of-self g c =
     let m = model c.args.self.now.state in
     let u : Returning = record { series = c.args.ticket.series; id = c.args.ticket.id; executed = c.args.executed; tape = length c.args.tape.now; sheet = length c.args.sheet.now } in
     let rule = g.R.Rule.meaning c.args.rule.now in
     let sound = sound_of m c.args.self.now.sound in
-    (∣ settled_sound (return_of rule u m) m c.give-back.result (model c.give-back.new.state) (λ d a. (a.lines ≡ d.answer) × (a.routed ≡ is_some d.ticket)) sound (kept.return rule u m sound) c.give-back.ensures.outcome ∣₁, (∣ c.give-back.ensures.fits ∣₁, tt))
+    (∣ settled_sound (return_of rule u m) m c.give_back.result (model c.give_back.new.state) (λ d a. (a.lines ≡ d.answer) × (a.routed ≡ is_some d.ticket)) sound (kept.return rule u m sound) c.give_back.ensures.outcome ∣₁, (∣ c.give_back.ensures.fits ∣₁, tt))
 
 pub returns-in-Err : goal.returns-in-Err
 returns-in-Err g c =
@@ -27,7 +27,7 @@ returns-in-Err g c =
     let rule = g.R.Rule.meaning c.args.rule.now in
     let e = c.in-Err.ensures in
     record {
-      outcome = returns_refused (return_of rule u m) m (model c.give-back.new.state) c.in-Err.refusal c.args.ticket (λ d a. (a.lines ≡ d.answer) × (a.routed ≡ is_some d.ticket)) e.outcome;
+      outcome = returns_refused (return_of rule u m) m (model c.give_back.new.state) c.in-Err.refusal c.args.ticket (λ d a. (a.lines ≡ d.answer) × (a.routed ≡ is_some d.ticket)) e.outcome;
       tape = e.tape;
       sheet = e.sheet;
       length = e.length;
@@ -41,7 +41,7 @@ returns-in-Ok g c =
     let rule = g.R.Rule.meaning c.args.rule.now in
     let e = c.in-Ok.ensures in
     record {
-      outcome = returns_done (return_of rule u m) m (model c.give-back.new.state) c.args.ticket c.in-Ok.traded e.outcome;
+      outcome = returns_done (return_of rule u m) m (model c.give_back.new.state) c.args.ticket c.in-Ok.traded e.outcome;
       tape = e.tape;
       sheet = λ refused. absurd (true≢false refused);
       length = e.length;

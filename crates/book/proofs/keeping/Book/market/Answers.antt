@@ -9,8 +9,8 @@ use Rattle.book.proofs.keeping.Book.market.Goals as goal
 pub market-requires : goal.market-requires
 market-requires c = tick_some c.args.self.now.state.tick (sound_of (model c.args.self.now.state) c.args.self.now.sound).tick
 
-pub invariant-of-self : goal.invariant-of-self
-invariant-of-self c =
+pub invariant_of-self : goal.invariant_of-self
+invariant_of-self c =
     let m = model c.args.self.now.state in
     let sound = sound_of m c.args.self.now.sound in
     let u : Updating = record { side = c.args.side; price = c.args.price } in

@@ -10,8 +10,8 @@ use Rattle.book.proofs.keeping.Book.resize.Goals as goal
 pub resize-requires : goal.resize-requires
 resize-requires c = record { fits = fits_of c.args.self.now.state c.args.self.now.fits; sound = sound_of (model c.args.self.now.state) c.args.self.now.sound }
 
-pub invariant-of-self : goal.invariant-of-self
-invariant-of-self c =
+pub invariant_of-self : goal.invariant_of-self
+invariant_of-self c =
     let m = model c.args.self.now.state in
     let sound = sound_of m c.args.self.now.sound in
     let u : Resizing = record { id = c.args.id; firm = c.args.firm; size = c.args.size } in
