@@ -104,8 +104,8 @@ fn take_back<R: Rule>(
     requires sound { Sound (model state.old) }
     requires fits { Fits state.old }
     requires comes { Comes (record { series = series; id = id; executed = executed; tape = length tape.old; sheet = length sheet.old }) (model state.old) (accepted at) }
-    ensures outcome { Settles (return_of (meaning rule.now) (record { series = series; id = id; executed = executed; tape = length tape.old; sheet = length sheet.old }) (model state.old)) (model state.old) (accepted result) (model state.new) (λ d a. (a.lines ≡ d.answer) × (a.routed ≡ is_some d.ticket)) }
-    ensures tape { tape.new ≡ taped (return_of (meaning rule.now) (record { series = series; id = id; executed = executed; tape = length tape.old; sheet = length sheet.old }) (model state.old)) tape.old }
+    ensures outcome { Settles (return_of (R.meaning rule.now) (record { series = series; id = id; executed = executed; tape = length tape.old; sheet = length sheet.old }) (model state.old)) (model state.old) (accepted result) (model state.new) (λ d a. (a.lines ≡ d.answer) × (a.routed ≡ is_some d.ticket)) }
+    ensures tape { tape.new ≡ taped (return_of (R.meaning rule.now) (record { series = series; id = id; executed = executed; tape = length tape.old; sheet = length sheet.old }) (model state.old)) tape.old }
     ensures sheet { length sheet.new ≡ length sheet.old }
     ensures fits { Fits state.new }
     ensures bid_lender { state.new.bids.ghost_name ≡ state.old.bids.ghost_name }
@@ -131,8 +131,8 @@ pub(crate) fn give_back<R: Rule>(
 ) -> Result<Traded, Refusal>
     requires sound { Sound (model state.old) }
     requires fits { Fits state.old }
-    ensures outcome { Settles (return_of (meaning rule.now) (record { series = series; id = id; executed = executed; tape = length tape.old; sheet = length sheet.old }) (model state.old)) (model state.old) result (model state.new) (λ d a. (a.lines ≡ d.answer) × (a.routed ≡ is_some d.ticket)) }
-    ensures tape { tape.new ≡ taped (return_of (meaning rule.now) (record { series = series; id = id; executed = executed; tape = length tape.old; sheet = length sheet.old }) (model state.old)) tape.old }
+    ensures outcome { Settles (return_of (R.meaning rule.now) (record { series = series; id = id; executed = executed; tape = length tape.old; sheet = length sheet.old }) (model state.old)) (model state.old) result (model state.new) (λ d a. (a.lines ≡ d.answer) × (a.routed ≡ is_some d.ticket)) }
+    ensures tape { tape.new ≡ taped (return_of (R.meaning rule.now) (record { series = series; id = id; executed = executed; tape = length tape.old; sheet = length sheet.old }) (model state.old)) tape.old }
     ensures sheet { is_ok result ≡ false → sheet.new ≡ sheet.old }
     ensures length { length sheet.new ≡ length sheet.old }
     ensures fits { Fits state.new }

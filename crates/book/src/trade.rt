@@ -82,10 +82,10 @@ fn meet<R: Rule>(
     requires size { order.now.size < 100000 }
     requires tape { longer_side (model state.old) + 1 ≤ length tape.old }
     requires sheet { longer_side (model state.old) ≤ length sheet.old }
-    ensures after { model state.new ≡ with_entries (other_side order.now.side) (traded (meaning rule.now) order.now (model state.old)).run (model state.old) }
-    ensures balance { result.balance ≡ (traded (meaning rule.now) order.now (model state.old)).balance }
-    ensures lines { result.lines ≡ length (traded (meaning rule.now) order.now (model state.old)).lines }
-    ensures tape { tape.new ≡ written 0 (traded (meaning rule.now) order.now (model state.old)).lines tape.old }
+    ensures after { model state.new ≡ with_entries (other_side order.now.side) (traded (R.meaning rule.now) order.now (model state.old)).run (model state.old) }
+    ensures balance { result.balance ≡ (traded (R.meaning rule.now) order.now (model state.old)).balance }
+    ensures lines { result.lines ≡ length (traded (R.meaning rule.now) order.now (model state.old)).lines }
+    ensures tape { tape.new ≡ written 0 (traded (R.meaning rule.now) order.now (model state.old)).lines tape.old }
     ensures sheet { length sheet.new ≡ length sheet.old }
     ensures fits { Fits state.new }
     ensures bid_lender { state.new.bids.ghost_name ≡ state.old.bids.ghost_name }
@@ -166,10 +166,10 @@ pub(crate) fn trade<R: Rule>(
     requires rows { may_route ≡ true → length (model state.old).out < 16 }
     requires tape { longer_side (model state.old) + 1 ≤ length tape.old }
     requires sheet { longer_side (model state.old) ≤ length sheet.old }
-    ensures after { model state.new ≡ (trading.trade (meaning rule.now) order.now may_route (model state.old)).after }
-    ensures tape { tape.new ≡ written 0 (trading.trade (meaning rule.now) order.now may_route (model state.old)).lines tape.old }
-    ensures lines { result.lines ≡ length (trading.trade (meaning rule.now) order.now may_route (model state.old)).lines }
-    ensures routed { result.routed ≡ is_some (trading.trade (meaning rule.now) order.now may_route (model state.old)).ticket }
+    ensures after { model state.new ≡ (trading.trade (R.meaning rule.now) order.now may_route (model state.old)).after }
+    ensures tape { tape.new ≡ written 0 (trading.trade (R.meaning rule.now) order.now may_route (model state.old)).lines tape.old }
+    ensures lines { result.lines ≡ length (trading.trade (R.meaning rule.now) order.now may_route (model state.old)).lines }
+    ensures routed { result.routed ≡ is_some (trading.trade (R.meaning rule.now) order.now may_route (model state.old)).ticket }
     ensures sheet { length sheet.new ≡ length sheet.old }
     ensures fits { Fits state.new }
     ensures bid_lender { state.new.bids.ghost_name ≡ state.old.bids.ghost_name }

@@ -98,13 +98,13 @@ fn makers<R: Rule>(
 ) -> Dealt
     requires tradable { Tradable deal.balance (live run.old) }
     requires sheet { length run.old ≤ length sheet.old }
-    requires room { deal.at + length (level.makers (meaning rule.now) at_best directed (record { balance = deal.balance; run = live run.old; lines = [] })).lines ≤ length tape.old }
-    ensures run { live run.new ≡ (level.makers (meaning rule.now) at_best directed (record { balance = deal.balance; run = live run.old; lines = [] })).run }
+    requires room { deal.at + length (level.makers (R.meaning rule.now) at_best directed (record { balance = deal.balance; run = live run.old; lines = [] })).lines ≤ length tape.old }
+    ensures run { live run.new ≡ (level.makers (R.meaning rule.now) at_best directed (record { balance = deal.balance; run = live run.old; lines = [] })).run }
     ensures places { length run.new ≡ length run.old }
     ensures sheet { length sheet.new ≡ length sheet.old }
-    ensures tape { tape.new ≡ written deal.at (level.makers (meaning rule.now) at_best directed (record { balance = deal.balance; run = live run.old; lines = [] })).lines tape.old }
-    ensures balance { result.balance ≡ (level.makers (meaning rule.now) at_best directed (record { balance = deal.balance; run = live run.old; lines = [] })).balance }
-    ensures at { result.at ≡ deal.at + length (level.makers (meaning rule.now) at_best directed (record { balance = deal.balance; run = live run.old; lines = [] })).lines }
+    ensures tape { tape.new ≡ written deal.at (level.makers (R.meaning rule.now) at_best directed (record { balance = deal.balance; run = live run.old; lines = [] })).lines tape.old }
+    ensures balance { result.balance ≡ (level.makers (R.meaning rule.now) at_best directed (record { balance = deal.balance; run = live run.old; lines = [] })).balance }
+    ensures at { result.at ≡ deal.at + length (level.makers (R.meaning rule.now) at_best directed (record { balance = deal.balance; run = live run.old; lines = [] })).lines }
 {
     let group = group_at(directed, run);
     let shows = shown(Part::Within(group), run);
@@ -160,12 +160,12 @@ pub(crate) fn price<R: Rule>(
     requires tradable { Tradable deal.balance run.old }
     requires sheet { length run.old ≤ length sheet.old }
     requires room { deal.at + length run.old ≤ length tape.old }
-    ensures run { live run.new ≡ (level.level (meaning rule.now) order.now at_best deal.balance run.old).run }
+    ensures run { live run.new ≡ (level.level (R.meaning rule.now) order.now at_best deal.balance run.old).run }
     ensures places { length run.new ≡ length run.old }
     ensures sheet { length sheet.new ≡ length sheet.old }
-    ensures tape { tape.new ≡ written deal.at (level.level (meaning rule.now) order.now at_best deal.balance run.old).lines tape.old }
-    ensures balance { result.balance ≡ (level.level (meaning rule.now) order.now at_best deal.balance run.old).balance }
-    ensures at { result.at ≡ deal.at + length (level.level (meaning rule.now) order.now at_best deal.balance run.old).lines }
+    ensures tape { tape.new ≡ written deal.at (level.level (R.meaning rule.now) order.now at_best deal.balance run.old).lines tape.old }
+    ensures balance { result.balance ≡ (level.level (R.meaning rule.now) order.now at_best deal.balance run.old).balance }
+    ensures at { result.at ≡ deal.at + length (level.level (R.meaning rule.now) order.now at_best deal.balance run.old).lines }
 {
     let directed = order.directed;
     let at = bar(order.firm, order.own_firm_mark, run, tape, deal.at);

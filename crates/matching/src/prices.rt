@@ -99,12 +99,12 @@ pub fn walk<R: Rule>(
     requires tradable { All (Tradable order.now.size) (runs (take len places.old)) }
     requires sheet { len ≤ length sheet.old }
     requires tape { len ≤ length tape.old }
-    ensures balance { result.balance ≡ (walking.walk (meaning rule.now) order.now national away order.now.size (runs (take len places.old))).balance }
-    ensures lines { result.lines ≡ length (walking.walk (meaning rule.now) order.now national away order.now.size (runs (take len places.old))).lines }
-    ensures len { result.len ≡ length (walking.walk (meaning rule.now) order.now national away order.now.size (runs (take len places.old))).run }
-    ensures entries { take result.len places.new ≡ (walking.walk (meaning rule.now) order.now national away order.now.size (runs (take len places.old))).run }
+    ensures balance { result.balance ≡ (walking.walk (R.meaning rule.now) order.now national away order.now.size (runs (take len places.old))).balance }
+    ensures lines { result.lines ≡ length (walking.walk (R.meaning rule.now) order.now national away order.now.size (runs (take len places.old))).lines }
+    ensures len { result.len ≡ length (walking.walk (R.meaning rule.now) order.now national away order.now.size (runs (take len places.old))).run }
+    ensures entries { take result.len places.new ≡ (walking.walk (R.meaning rule.now) order.now national away order.now.size (runs (take len places.old))).run }
     ensures places { length places.new ≡ length places.old }
-    ensures tape { tape.new ≡ written 0 (walking.walk (meaning rule.now) order.now national away order.now.size (runs (take len places.old))).lines tape.old }
+    ensures tape { tape.new ≡ written 0 (walking.walk (R.meaning rule.now) order.now national away order.now.size (runs (take len places.old))).lines tape.old }
     ensures sheet { length sheet.new ≡ length sheet.old }
 {
     let side = order.side;

@@ -47,7 +47,7 @@ fn share_first<R: Rule>(rule: &R, amount: u32, sheet: &mut [Claim], n: usize) ->
     requires within { n ≤ length sheet.old }
     requires shareable { Shareable amount (take n sheet.old) }
     ensures value { result ≡ min amount (total claims.size_of (take n sheet.old)) }
-    ensures shared { take n sheet.new ≡ allotted ((meaning rule.now).allotments amount (take n sheet.old)) (take n sheet.old) }
+    ensures shared { take n sheet.new ≡ allotted ((R.meaning rule.now).allotments amount (take n sheet.old)) (take n sheet.old) }
     ensures length { length sheet.new ≡ length sheet.old }
 {
     share_out(rule, amount, &mut sheet[..n])
@@ -107,13 +107,13 @@ pub(crate) fn step<R: Rule>(
     requires shareable { Shareable amount (map claim_of (filter (part_test part) (live run.old))) }
     requires amount { amount ≤ deal.balance }
     requires sheet { length run.old ≤ length sheet.old }
-    requires room { deal.at + length (level.step name (part_test part) (meaning rule.now) amount (record { balance = deal.balance; run = live run.old; lines = [] })).lines ≤ length tape.old }
-    ensures run { live run.new ≡ (level.step name (part_test part) (meaning rule.now) amount (record { balance = deal.balance; run = live run.old; lines = [] })).run }
+    requires room { deal.at + length (level.step name (part_test part) (R.meaning rule.now) amount (record { balance = deal.balance; run = live run.old; lines = [] })).lines ≤ length tape.old }
+    ensures run { live run.new ≡ (level.step name (part_test part) (R.meaning rule.now) amount (record { balance = deal.balance; run = live run.old; lines = [] })).run }
     ensures places { length run.new ≡ length run.old }
     ensures sheet { length sheet.new ≡ length sheet.old }
-    ensures tape { tape.new ≡ written deal.at (level.step name (part_test part) (meaning rule.now) amount (record { balance = deal.balance; run = live run.old; lines = [] })).lines tape.old }
-    ensures balance { result.balance ≡ (level.step name (part_test part) (meaning rule.now) amount (record { balance = deal.balance; run = live run.old; lines = [] })).balance }
-    ensures at { result.at ≡ deal.at + length (level.step name (part_test part) (meaning rule.now) amount (record { balance = deal.balance; run = live run.old; lines = [] })).lines }
+    ensures tape { tape.new ≡ written deal.at (level.step name (part_test part) (R.meaning rule.now) amount (record { balance = deal.balance; run = live run.old; lines = [] })).lines tape.old }
+    ensures balance { result.balance ≡ (level.step name (part_test part) (R.meaning rule.now) amount (record { balance = deal.balance; run = live run.old; lines = [] })).balance }
+    ensures at { result.at ≡ deal.at + length (level.step name (part_test part) (R.meaning rule.now) amount (record { balance = deal.balance; run = live run.old; lines = [] })).lines }
 {
     let n = gather(part, run, sheet);
     let given = share_first(rule, amount, sheet, n);

@@ -16,17 +16,14 @@ loop-i-init c =
     (subst (λ l. AllZip ◌≤◌ l (map size_of claims)) (sym (take-map allotment_of (length claims) c.args.sheet.now)) c.requires.within)
 
 -- an entry that takes part has a claim
-claim_here : (c : goal.Then-has) → c.loop-i.j < length c.args.sheet.now
-claim_here c = turn_claim c.args.sheet.now c.loop-i.invariant (omega arith) c.if-e-gt0.true c.if-has.ensures
-
 pub offset_bounds-sheet-j : goal.offset_bounds-sheet-j
-offset_bounds-sheet-j c = let claim = claim_here c in search rules
+offset_bounds-sheet-j c = let claim = turn_claim c.args.sheet.now c.loop-i.invariant (omega arith) c.if-e-gt0.true c.if-has.ensures in search rules
 
 pub bounds-sheet-j : goal.bounds-sheet-j
-bounds-sheet-j c = claim_here c
+bounds-sheet-j c = turn_claim c.args.sheet.now c.loop-i.invariant (omega arith) c.if-e-gt0.true c.if-has.ensures
 
 pub overflow_add-j : goal.overflow_add-j
-overflow_add-j c = let claim = claim_here c in search rules
+overflow_add-j c = let claim = turn_claim c.args.sheet.now c.loop-i.invariant (omega arith) c.if-e-gt0.true c.if-has.ensures in search rules
 
 pub bounds-tape-at : goal.bounds-tape-at
 bounds-tape-at c = omega (arith, c.requires.room, c.loop-i.auto.tape, turn_room c.args.sheet.now c.loop-i.invariant (omega arith) c.if-e-gt0.true c.if-has.ensures c.if-n-gt0.true)
