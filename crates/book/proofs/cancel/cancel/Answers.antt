@@ -23,7 +23,7 @@ returns-in-Ok c =
     let m = model c.args.state.now in
     let n = model c.remove_at.new.state in
     let k : Cancelling = record { id = c.args.id; firm = c.args.firm } in
-    let own = c.in-Ok.own_val in
+    let own = c.in-Ok.own in
     let done = c.remove_at.ensures in
     let same = same_opening own.side _ m n done.after in
     record {

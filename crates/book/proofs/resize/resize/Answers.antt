@@ -33,7 +33,7 @@ returns-then-size-e c =
     let m = model c.args.state.now in
     let n = model c.replace_at.new.state in
     let k : Resizing = record { id = c.args.id; firm = c.args.firm; size = c.args.size } in
-    let own = c.in-Ok.own_val in
+    let own = c.in-Ok.own in
     let size = sym c.valid_size.ensures ∙ c.if-not-valid_size.false in
     let done = c.replace_at.ensures in
     let same = same_opening own.side (set (entries own.side m) own.at (resized k.size own.entry)) m n done.after in
@@ -50,7 +50,7 @@ pub returns-then-last-gt4000000000 : goal.returns-then-last-gt4000000000
 returns-then-last-gt4000000000 c =
     let m = model c.args.state.now in
     let k : Resizing = record { id = c.args.id; firm = c.args.firm; size = c.args.size } in
-    let own = c.in-Ok.own_val in
+    let own = c.in-Ok.own in
     let its = c.in-Ok.ensures in
     let size = sym c.valid_size.ensures ∙ c.if-not-valid_size.false in
     record { outcome = refuses (resize_of k m) LastTimeReached m (no_time k m c.if-firm-eq0.false size own.side own.entry its.stands its.firm_is (omega (arith, c.if-size-e.false)) c.if-last-gt4000000000.true); fits = c.requires.fits; bid_places = refl; offer_places = refl; bid_lender = refl; offer_lender = refl }
@@ -59,7 +59,7 @@ pub put_entry-requires : goal.put_entry-requires
 put_entry-requires c =
     let m = model c.args.state.now in
     let n = model c.remove_at.new.state in
-    let own = c.in-Ok.own_val in
+    let own = c.in-Ok.own in
     let its = c.in-Ok.ensures in
     let gone = c.remove_at.ensures in
     record {
@@ -74,7 +74,7 @@ returns-else-last-gt4000000000 c =
     let o = model c.remove_at.new.state in
     let n = model c.put_entry.new.state in
     let k : Resizing = record { id = c.args.id; firm = c.args.firm; size = c.args.size } in
-    let own = c.in-Ok.own_val in
+    let own = c.in-Ok.own in
     let size = sym c.valid_size.ensures ∙ c.if-not-valid_size.false in
     let gone = c.remove_at.ensures in
     let come = c.put_entry.ensures in

@@ -15,7 +15,7 @@ invariant_of-self c =
     let m = model c.args.self.now.state in
     let sound = sound_of m c.args.self.now.sound in
     let u : Cancelling = record { id = c.args.id; firm = c.args.firm } in
-    (∣ settled_sound (cancel_of u m) m c.cancel.result (model c.cancel.new.state) (λ d a. a ≡ d.answer) sound (kept.cancel u m sound) c.cancel.ensures.outcome ∣₁, (∣ c.cancel.ensures.fits ∣₁, tt))
+    record { sound = ∣ settled_sound (cancel_of u m) m c.cancel.result (model c.cancel.new.state) (λ d a. a ≡ d.answer) sound (kept.cancel u m sound) c.cancel.ensures.outcome ∣₁; fits = ∣ c.cancel.ensures.fits ∣₁ }
 
 pub returns : goal.returns
 returns c = record { outcome = c.cancel.ensures.outcome; lawful = stays_lawful (model c.args.self.now.state) (cancels (record { id = c.args.id; firm = c.args.firm })) }

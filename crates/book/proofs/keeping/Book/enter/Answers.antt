@@ -19,7 +19,7 @@ invariant_of-self g c =
     let u : Entering = record { order = c.args.order.now; tape = length c.args.tape.now; sheet = length c.args.sheet.now } in
     let rule = g.R.Rule.meaning c.args.rule.now in
     let sound = sound_of m c.args.self.now.sound in
-    (∣ settled_sound (entry_of rule u m) m c.enter.result (model c.enter.new.state) (λ d a. (a.lines ≡ d.answer) × (a.routed ≡ is_some d.ticket)) sound (kept.entry rule u m sound) c.enter.ensures.outcome ∣₁, (∣ c.enter.ensures.fits ∣₁, tt))
+    record { sound = ∣ settled_sound (entry_of rule u m) m c.enter.result (model c.enter.new.state) (λ d a. (a.lines ≡ d.answer) × (a.routed ≡ is_some d.ticket)) sound (kept.entry rule u m sound) c.enter.ensures.outcome ∣₁; fits = ∣ c.enter.ensures.fits ∣₁ }
 
 pub returns-in-Err : goal.returns-in-Err
 returns-in-Err g c =

@@ -18,7 +18,7 @@ invariant_of-self g c =
     let u : Returning = record { series = c.args.ticket.series; id = c.args.ticket.id; executed = c.args.executed; tape = length c.args.tape.now; sheet = length c.args.sheet.now } in
     let rule = g.R.Rule.meaning c.args.rule.now in
     let sound = sound_of m c.args.self.now.sound in
-    (∣ settled_sound (return_of rule u m) m c.give_back.result (model c.give_back.new.state) (λ d a. (a.lines ≡ d.answer) × (a.routed ≡ is_some d.ticket)) sound (kept.return rule u m sound) c.give_back.ensures.outcome ∣₁, (∣ c.give_back.ensures.fits ∣₁, tt))
+    record { sound = ∣ settled_sound (return_of rule u m) m c.give_back.result (model c.give_back.new.state) (λ d a. (a.lines ≡ d.answer) × (a.routed ≡ is_some d.ticket)) sound (kept.return rule u m sound) c.give_back.ensures.outcome ∣₁; fits = ∣ c.give_back.ensures.fits ∣₁ }
 
 pub returns-in-Err : goal.returns-in-Err
 returns-in-Err g c =

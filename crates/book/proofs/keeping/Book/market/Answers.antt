@@ -14,7 +14,7 @@ invariant_of-self c =
     let m = model c.args.self.now.state in
     let sound = sound_of m c.args.self.now.sound in
     let u : Updating = record { side = c.args.side; price = c.args.price } in
-    (∣ settled_sound (market_of u m) m c.market.result (model c.market.new.state) (λ d a. Unit {0}) sound (kept.market u m sound) c.market.ensures.outcome ∣₁, (∣ c.market.ensures.fits (fits_of c.args.self.now.state c.args.self.now.fits) ∣₁, tt))
+    record { sound = ∣ settled_sound (market_of u m) m c.market.result (model c.market.new.state) (λ d a. Unit {0}) sound (kept.market u m sound) c.market.ensures.outcome ∣₁; fits = ∣ c.market.ensures.fits (fits_of c.args.self.now.state c.args.self.now.fits) ∣₁ }
 
 pub returns : goal.returns
 returns c = record { outcome = c.market.ensures.outcome; lawful = stays_lawful (model c.args.self.now.state) (updates (record { side = c.args.side; price = c.args.price })) }

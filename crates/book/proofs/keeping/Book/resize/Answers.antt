@@ -15,7 +15,7 @@ invariant_of-self c =
     let m = model c.args.self.now.state in
     let sound = sound_of m c.args.self.now.sound in
     let u : Resizing = record { id = c.args.id; firm = c.args.firm; size = c.args.size } in
-    (∣ settled_sound (resize_of u m) m c.resize.result (model c.resize.new.state) (λ d a. a ≡ d.answer) sound (kept.resize u m sound) c.resize.ensures.outcome ∣₁, (∣ c.resize.ensures.fits ∣₁, tt))
+    record { sound = ∣ settled_sound (resize_of u m) m c.resize.result (model c.resize.new.state) (λ d a. a ≡ d.answer) sound (kept.resize u m sound) c.resize.ensures.outcome ∣₁; fits = ∣ c.resize.ensures.fits ∣₁ }
 
 pub returns : goal.returns
 returns c = record { outcome = c.resize.ensures.outcome; lawful = stays_lawful (model c.args.self.now.state) (resizes (record { id = c.args.id; firm = c.args.firm; size = c.args.size })) }
