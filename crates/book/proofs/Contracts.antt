@@ -1,5 +1,5 @@
 -- The contracts of a side fit 32 bits. Assumes nothing.
-use Rattle.std.proofs.Common.{◌*◌, ◌<◌, ◌≤◌, arith}
+use Rattle.std.proofs.Common.{◌<◌, ◌≤◌, arith}
 use Rattle.std.proofs.ByRecursion.{All-weaker}
 use Rattle.sharing.specs.Totals.{total}
 use Rattle.sharing.specs.Allotted.{total_few}

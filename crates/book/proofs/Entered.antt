@@ -1,16 +1,15 @@
 -- An entry that no check refuses: what it may ask of trading, and what it comes to. Assumes nothing.
-use Rattle.std.proofs.Common.{◌≡◌, ℕ, ◌+◌, ◌<◌, ◌≤◌, Bool, true, false, cond, ltb, List, [], ◌∷◌, ◌++◌, length, set, is_some, Some, None, unwrap_or, sym, refl, ap, ◌∙◌, subst, ⊎_elim, arith}
+use Rattle.std.proofs.Common.{◌≡◌, ℕ, ◌+◌, ◌<◌, ◌≤◌, Bool, false, ltb, List, [], ◌∷◌, length, set, is_some, Some, None, unwrap_or, sym, refl, ap, ◌∙◌, ⊎_elim, arith}
 use Rattle.std.specs.List.{AllByRecursion as All}
 use Rattle.std.proofs.lemmas.Bool.{false≢true, cases_Bool, cond-true, cond-false, lt-ltb, le-ltb, ltb-false}
 use Rattle.sharing.specs.Sharing.{Sharing}
 use Rattle.rules.specs.declared.numbers.Refusal.{Refusal}
 use Rattle.rules.specs.declared.tape.Line.{Line}
-use Rattle.rules.specs.declared.terms.Order.{Order}
 use Rattle.rules.specs.declared.terms.Routed.{Routed}
 use Rattle.rules.specs.Calls.{Entering, reference, entry_checks, setting_out, capped, least_missed, missed, entry_of}
 use Rattle.rules.specs.Caps.{cap_of}
 use Rattle.rules.specs.Model.{Model, entries, away, with_last_id}
-use Rattle.rules.specs.Outcome.{Done, Outcome, Check, checked, longer_side}
+use Rattle.rules.specs.Outcome.{Outcome, Check, checked, longer_side}
 use Rattle.rules.specs.Outcome.Outcome.{refused, done}
 use Rattle.rules.specs.Sides.{other_side}
 use Rattle.rules.specs.Trade.{finished, trade}

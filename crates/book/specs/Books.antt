@@ -1,5 +1,5 @@
 -- The book as lists and numbers, read off its places and fields. Assumes nothing.
-use Rattle.std.specs.Prelude.{◌≡◌, ◌≤◌, List, length, take}
+use Rattle.std.specs.Prelude.{◌≡◌, ◌≤◌, length, take}
 use Rattle.rules.specs.Model.{Model}
 use Rattle.book.specs.declared.state.State.{State}
 

@@ -1,5 +1,5 @@
 -- An opening that no check refuses is accepted. Assumes nothing.
-use Rattle.std.proofs.Common.{◌≡◌, Bool, true, false, cond, not, ◌||◌, eqb, [], None, refl, ap, ◌∙◌}
+use Rattle.std.proofs.Common.{◌≡◌, Bool, true, false, cond, not, ◌||◌, eqb, [], None, ap, ◌∙◌}
 use Rattle.rules.specs.declared.numbers.Refusal.TheVariants.{BadPlaces, BadTickOrSeries}
 use Rattle.rules.specs.Calls.{bad_places, opened, opening_of}
 use Rattle.rules.specs.Model.{Opening}

@@ -1,8 +1,8 @@
 -- What the records tell once an order has traded and come to its end. Assumes nothing.
-use Rattle.std.proofs.Common.{◌≡◌, ℕ, ◌+◌, ◌≤◌, Bool, true, false, cond, eqb, List, [], ◌∷◌, ◌++◌, is_some, Some, None, Option, sym, refl, ap, ◌∙◌, subst, arith}
+use Rattle.std.proofs.Common.{◌≡◌, ℕ, ◌+◌, false, eqb, List, [], ◌∷◌, ◌++◌, is_some, Some, None, Option, sym, refl, ap, ◌∙◌, subst, arith}
 use Rattle.std.specs.List.{AllByRecursion as All}
-use Rattle.std.proofs.ByRecursion.{All-weaker, All-append}
-use Rattle.std.proofs.lemmas.Bool.{cond-true, cond-false, eq-eqb, ne_eqb}
+use Rattle.std.proofs.ByRecursion.{All-append}
+use Rattle.std.proofs.lemmas.Bool.{cond-true, cond-false, eq-eqb}
 use Rattle.ranked.specs.Ranked.{ahead}
 use Rattle.ranked.proofs.Orderly.{all_inserted_into}
 use Rattle.sharing.specs.Totals.{one_if, count}
@@ -13,7 +13,7 @@ use Rattle.rules.specs.declared.terms.Side.{Side}
 use Rattle.rules.specs.declared.terms.Side.TheVariants.{Buy, Sell}
 use Rattle.rules.specs.Laws.{LeftOf}
 use Rattle.rules.specs.Level.{resized}
-use Rattle.rules.specs.Model.{Model, Opening, entries, away, with_entries, with_last_time, ranked_in}
+use Rattle.rules.specs.Model.{Model, entries, away, with_entries, with_last_time, ranked_in}
 use Rattle.rules.specs.Ranks.{rank_of, rank_before}
 use Rattle.rules.specs.Sides.{other_side}
 use Rattle.rules.specs.Sound.{standing_with}

@@ -1,13 +1,12 @@
 -- The tape of an order that trades, booked to every account. Assumes nothing.
-use Rattle.std.proofs.Common.{◌≡◌, ℕ, ◌+◌, ◌-◌, ◌<◌, ◌≤◌, Bool, true, false, cond, not, ◌&&◌, ◌||◌, eqb, leb, List, [], ◌∷◌, ◌++◌, length, Option, sym, refl, ap, ◌∙◌, subst, ⊎_elim, arith}
+use Rattle.std.proofs.Common.{◌≡◌, ℕ, ◌+◌, ◌<◌, ◌≤◌, Bool, true, false, cond, ◌&&◌, ◌||◌, eqb, leb, List, [], ◌∷◌, length, Option, sym, refl, ap, ◌∙◌, subst, ⊎_elim, arith}
 use Rattle.std.specs.List.{AllByRecursion as All}
-use Rattle.std.proofs.lemmas.Bool.{true≢false, cases_Bool, cond_both, eqb-true}
+use Rattle.std.proofs.lemmas.Bool.{cases_Bool, cond_both, eqb-true}
 use Rattle.ranked.specs.Ranked.{ahead}
 use Rattle.sharing.specs.Sharing.{Sharing, Lawful}
 use Rattle.sharing.specs.Totals.{one_if, total, count}
 use Rattle.sharing.specs.Allotted.{total_append}
 use Rattle.sharing.specs.Ordered.{total_inserted}
-use Rattle.rules.specs.declared.numbers.Cause.{Cause}
 use Rattle.rules.specs.declared.numbers.Cause.TheVariants.{Immediate, AwayPrice, NoPlaceOnReturn}
 use Rattle.rules.specs.declared.tape.Line.{Line}
 use Rattle.rules.specs.declared.tape.Line.TheVariants.{Fill, Cancel, Filled, Rest, Route}
@@ -16,8 +15,8 @@ use Rattle.rules.specs.declared.terms.Routed.{Routed}
 use Rattle.rules.specs.declared.terms.Side.{Side}
 use Rattle.rules.specs.declared.terms.Side.TheVariants.{Buy, Sell}
 use Rattle.rules.specs.Caps.{is_ioc}
-use Rattle.rules.specs.Laws.{traded_in, taken_from, holding, names, Conserves}
-use Rattle.rules.specs.Level.{size_of, Deal}
+use Rattle.rules.specs.Laws.{traded_in, taken_from, holding, names}
+use Rattle.rules.specs.Level.{Deal}
 use Rattle.rules.specs.Model.{Model, entries, away, places, with_entries, national_best, ranked_in}
 use Rattle.rules.specs.Outcome.{Done}
 use Rattle.rules.specs.Ranks.{rank_of, rank_before}
@@ -25,7 +24,7 @@ use Rattle.rules.specs.Sides.{other_side}
 use Rattle.rules.specs.Sound.{standing_with, Sound}
 use Rattle.rules.specs.Trade.{away_in_cap, Ending, ending, end_line, sized, resting_entry, ended, traded, finished, trade}
 use Rattle.rules.specs.Trade.Ending.{is_filled, is_routed, is_cancelled, rests}
-use Rattle.rules.specs.Walk.{flat, runs, walk}
+use Rattle.rules.specs.Walk.{runs, walk}
 use Rattle.rules.proofs.AllPrices.{all_prices}
 use Rattle.rules.proofs.CallsKeep.{same_book}
 use Rattle.rules.proofs.Leaves.{runs_are_whole}

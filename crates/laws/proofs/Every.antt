@@ -1,5 +1,5 @@
 -- Every history keeps the laws. Assumes nothing.
-use Rattle.std.proofs.Common.{◌≡◌, ℕ, ◌+◌, ◌-◌, ◌<◌, ◌≤◌, Bool, true, false, cond, not, eqb, ltb, leb, List, [], ◌∷◌, ◌++◌, Some, None, Option, sym, refl, ap, ◌∙◌, subst, arith}
+use Rattle.std.proofs.Common.{◌≡◌, ℕ, ◌-◌, ◌<◌, ◌≤◌, Bool, true, false, cond, not, eqb, leb, List, [], ◌∷◌, Some, None, Option, sym, refl, ap, ◌∙◌, subst, arith}
 use Rattle.std.specs.List.{AllByRecursion as All}
 use Rattle.std.proofs.ByRecursion.{All-weaker}
 use Rattle.std.proofs.lemmas.Bool.{false≢true, cond_both, le-leb, lt-leb, ltb-true, ltb-false}
@@ -7,7 +7,6 @@ use Rattle.sharing.specs.Sharing.{Sharing, Lawful}
 use Rattle.sharing.specs.Totals.{count}
 use Rattle.rules.specs.declared.numbers.Cause.{Cause}
 use Rattle.rules.specs.declared.numbers.Cause.TheVariants.{LeastSize}
-use Rattle.rules.specs.declared.numbers.Refusal.{Refusal}
 use Rattle.rules.specs.declared.numbers.Refusal.TheVariants.{FirmZero, AnotherFirms, NeitherRestingNorOut, OutOnRoute, NotOutHere}
 use Rattle.rules.specs.declared.tape.Line.{Line}
 use Rattle.rules.specs.declared.tape.Line.TheVariants.{Cancel}
@@ -18,27 +17,26 @@ use Rattle.rules.specs.declared.terms.Side.TheVariants.{Buy, Sell}
 use Rattle.rules.specs.Calls.{Entering, entry_checks, capped, least_missed, missed, entry_of, Returning, without_row, return_checks, returned, return_of, Resizing, without_entry, after_resize, resize_checks, resting_checks, resize_at, resize_of, Cancelling, cancel_checks, cancel_at, cancel_of, Updating, market_checks, market_of, opened, opening_checks, opening_of}
 use Rattle.rules.specs.Caps.{cap_of}
 use Rattle.rules.specs.Model.{Model, Opening, entries, away, with_entries, with_away, with_out, with_last_id}
-use Rattle.rules.specs.Outcome.{Done, Outcome, lent_checks, row_with, Standing as Stand, standing}
+use Rattle.rules.specs.Outcome.{Done, lent_checks, row_with, Standing as Stand, standing}
 use Rattle.rules.specs.Outcome.Outcome.{refused, done}
 use Rattle.rules.specs.Outcome.Standing.{resting as rests_at, out_on_route, nowhere}
 use Rattle.rules.specs.Sides.{other_side}
 use Rattle.rules.specs.Sound.{GoodEntry, standing_with, Sound, Keeps}
-use Rattle.rules.specs.Trade.{Ending, ending, end_line, sized, traded, finished, trade}
+use Rattle.rules.specs.Trade.{Ending, ending, sized, traded, finished, trade}
 use Rattle.rules.specs.Walk.{available}
 use Rattle.rules.proofs.CallsKeep.{checked_by, entry_fits, counted_sound, side_once, kept}
 use Rattle.rules.proofs.Moves.{good_side, given_back}
 use Rattle.rules.proofs.Runs.{places_few}
 use Rattle.laws.specs.Accounts.{account}
-use Rattle.laws.specs.Balanced.{Balanced}
-use Rattle.laws.specs.Facts.{Arrived, arrived, away_price}
-use Rattle.laws.specs.Histories.{LawfulRule, Call, Told, outcome, left_by, tell, is_accepted, book_after, told_after, History}
+use Rattle.laws.specs.Facts.{arrived, away_price}
+use Rattle.laws.specs.Histories.{LawfulRule, Call, Told, outcome, tell, is_accepted, book_after, told_after}
 use Rattle.laws.specs.Histories.Call.{enters, returns, resizes, cancels, updates}
-use Rattle.laws.specs.Histories.Told.{turned_down, carried_out}
-use Rattle.laws.specs.Lawful.{Trading, scene_of, HoldsOf, HoldsOfReturn, HoldsIn, HoldsAt, InEachCall, LawfulHistory, EveryHistory}
+use Rattle.laws.specs.Histories.Told.{carried_out}
+use Rattle.laws.specs.Lawful.{Trading, scene_of, HoldsOf, HoldsIn, HoldsAt, InEachCall, EveryHistory}
 use Rattle.laws.specs.Makers.{GuaranteeAndFloors}
 use Rattle.laws.specs.Priority.{PriorityAndPrice}
 use Rattle.laws.specs.Scenes.{Scene, least_available}
-use Rattle.laws.specs.Standing.{Known, Standing, national_told, Capped}
+use Rattle.laws.specs.Standing.{Known, national_told}
 use Rattle.laws.proofs.AfterTrade.{comes_sized}
 use Rattle.laws.proofs.Booked.{side_fresh}
 use Rattle.laws.proofs.Quiet.{Next, tied_market, tied_cancel, tied_resize}

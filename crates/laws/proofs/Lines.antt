@@ -1,5 +1,5 @@
 -- What holds of each entry that an order meets holds of each line that its walk writes. Assumes nothing.
-use Rattle.std.proofs.Common.{◌≡◌, ℕ, ◌-◌, Bool, true, false, cond, not, ◌&&◌, ltb, leb, List, [], ◌∷◌, ◌++◌, map, filter, Option, sym, refl, ap, ◌∙◌, subst}
+use Rattle.std.proofs.Common.{ℕ, Bool, not, ◌&&◌, ltb, leb, List, [], ◌∷◌, ◌++◌, map, filter, Option}
 use Rattle.std.specs.List.{AllByRecursion as All}
 use Rattle.std.proofs.ByRecursion.{All-append, all_kept_by, All-map}
 use Rattle.std.proofs.lemmas.Bool.{cond_both}
@@ -12,7 +12,7 @@ use Rattle.rules.specs.declared.tape.Step.TheVariants.{CustomerMarketOrders, Oth
 use Rattle.rules.specs.declared.terms.Entry.{Entry}
 use Rattle.rules.specs.declared.terms.Routed.{Routed}
 use Rattle.rules.specs.Checks.{is_barred}
-use Rattle.rules.specs.Level.{claim_of, spread, resized, left_after, fills, Deal, step, in_class, in_group, acts, for_group, makers, barred_line, unbarred, level}
+use Rattle.rules.specs.Level.{claim_of, spread, resized, fills, Deal, step, in_class, in_group, acts, for_group, makers, barred_line, unbarred, level}
 use Rattle.rules.specs.Prices.{in_reach}
 use Rattle.rules.specs.Walk.{at_price, is_price_of, flat, walk}
 use Rattle.rules.proofs.Held.{all_left}

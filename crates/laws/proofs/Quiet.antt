@@ -1,11 +1,11 @@
 -- Calls that do not trade keep the records tied to the book: refusals, market updates, cancels and size changes. Assumes nothing.
-use Rattle.std.proofs.Common.{◌≡◌, ℕ, ◌+◌, ◌-◌, ◌<◌, ◌≤◌, Bool, true, false, cond, not, eqb, ltb, List, [], ◌∷◌, map, is_some, Some, None, filter, Option, sym, refl, ap, ◌∙◌, subst, ⊎_elim, arith}
+use Rattle.std.proofs.Common.{◌≡◌, ℕ, ◌+◌, ◌-◌, ◌<◌, ◌≤◌, true, false, cond, not, eqb, ltb, List, [], ◌∷◌, is_some, Some, None, Option, sym, refl, ap, ◌∙◌, subst, ⊎_elim, arith}
 use Rattle.std.specs.List.{AllByRecursion as All}
 use Rattle.std.proofs.ByRecursion.{All-weaker, all_kept_by, All-map}
 use Rattle.std.proofs.lemmas.Bool.{false≢true, cases_Bool, cond_both, cond-true, cond-false, eqb-true, eq-eqb, ne_eqb}
 use Rattle.ranked.specs.Ranked.{ahead}
 use Rattle.ranked.proofs.Orderly.{all_inserted_into}
-use Rattle.sharing.specs.Totals.{one_if, total, count}
+use Rattle.sharing.specs.Totals.{one_if, count}
 use Rattle.sharing.specs.Ordered.{total_inserted}
 use Rattle.rules.specs.declared.numbers.Refusal.{Refusal}
 use Rattle.rules.specs.declared.numbers.Refusal.TheVariants.{FirmZero, AnotherFirms, NeitherRestingNorOut, OutOnRoute}
@@ -17,9 +17,9 @@ use Rattle.rules.specs.Calls.{Resizing, without_entry, enlarged, reduced_in, aft
 use Rattle.rules.specs.Laws.{holding}
 use Rattle.rules.specs.Level.{size_of, resized}
 use Rattle.rules.specs.Model.{Model, Opening, entries, away, with_entries, with_away, with_last_time, ranked_in}
-use Rattle.rules.specs.Outcome.{Done, Outcome, checked, entry_with, row_with, Standing, standing_by}
+use Rattle.rules.specs.Outcome.{Outcome, entry_with, row_with, standing_by}
 use Rattle.rules.specs.Outcome.Outcome.{refused, done}
-use Rattle.rules.specs.Outcome.Standing.{resting as rests_at, out_on_route, nowhere}
+use Rattle.rules.specs.Outcome.Standing.{resting as rests_at}
 use Rattle.rules.specs.Ranks.{rank_of, rank_before}
 use Rattle.rules.specs.Sound.{GoodEntry, standing_with, Sound, Keeps}
 use Rattle.rules.proofs.CallsKeep.{checked_by, found_head, found_all, found_id, found_counts, others_none, reduced_none, side_once, kept}
@@ -27,7 +27,7 @@ use Rattle.rules.proofs.Moves.{counts, good_side}
 use Rattle.laws.specs.Accounts.{holds, account}
 use Rattle.laws.specs.Balanced.{resting}
 use Rattle.laws.specs.Facts.{arrived, timed_by, clock, working_time, time_by, away_price}
-use Rattle.laws.specs.Histories.{Call, Told, tell, left_by, outcome}
+use Rattle.laws.specs.Histories.{Call, Told, tell, left_by}
 use Rattle.laws.specs.Histories.Call.{resizes, cancels, updates}
 use Rattle.laws.specs.Histories.Told.{turned_down, carried_out}
 use Rattle.laws.specs.Standing.{Known}

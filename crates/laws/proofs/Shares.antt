@@ -1,5 +1,5 @@
 -- What the entries of a round share, under any lawful rule. Assumes nothing.
-use Rattle.std.proofs.Common.{◌≡◌, ℕ, ◌-◌, ◌<◌, ◌≤◌, min, Bool, true, List, [], ◌∷◌, map, length, filter, sym, refl, ap, ◌∙◌, subst, arith}
+use Rattle.std.proofs.Common.{◌≡◌, ℕ, ◌<◌, ◌≤◌, min, Bool, true, List, [], ◌∷◌, map, length, filter, sym, refl, ap, ◌∙◌, subst, arith}
 use mathlib.Core.List.{map-map}
 use Rattle.std.specs.List.{AllZip}
 use Rattle.std.proofs.lemmas.List.Elements.{length_all_zip}

@@ -1,5 +1,5 @@
 -- What the orders of the two sides traded here adds up to the same. Assumes nothing.
-use Rattle.std.proofs.Common.{◌≡◌, ℕ, ◌+◌, ◌-◌, ◌<◌, ◌≤◌, Bool, true, false, cond, ◌&&◌, ◌||◌, eqb, List, [], ◌∷◌, ◌++◌, Some, None, Option, sym, refl, ap, ◌∙◌, subst, ⊎_elim, arith}
+use Rattle.std.proofs.Common.{◌≡◌, ℕ, ◌+◌, ◌-◌, ◌<◌, Bool, true, false, cond, ◌&&◌, ◌||◌, eqb, List, [], ◌∷◌, Some, None, Option, sym, refl, ap, ◌∙◌, subst, ⊎_elim, arith}
 use Rattle.std.specs.List.{AllByRecursion as All}
 use Rattle.std.proofs.ByRecursion.{All-append}
 use Rattle.std.proofs.lemmas.Bool.{true≢false, cases_Bool, cond_both, cond-true, cond-false, eqb-true, eq-eqb, ne_eqb, ltb-false}
@@ -15,7 +15,6 @@ use Rattle.rules.specs.declared.terms.Routed.{Routed}
 use Rattle.rules.specs.declared.terms.Side.{Side}
 use Rattle.rules.specs.declared.terms.Side.TheVariants.{Buy, Sell}
 use Rattle.rules.specs.Laws.{traded_in}
-use Rattle.rules.specs.Level.{resized}
 use Rattle.rules.specs.Calls.{Entering, entry_checks, capped, least_missed, missed, entry_of, Returning, without_row, return_checks, returned, return_of, Resizing, resize_of, Cancelling, cancel_of, Updating, market_of}
 use Rattle.rules.specs.Model.{Model, Opening, entries, away, with_entries, with_out, with_last_id, national_best}
 use Rattle.rules.specs.Outcome.{Done, Outcome, lent_checks, row_with}

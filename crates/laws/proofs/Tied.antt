@@ -1,5 +1,5 @@
 -- What ties the records to the book, and what follows of the entries that stand. Assumes nothing.
-use Rattle.std.proofs.Common.{◌≡◌, ℕ, ◌+◌, ◌-◌, ◌<◌, ◌≤◌, Bool, true, false, cond, eqb, ◌⊎◌, List, [], ◌∷◌, Some, None, Option, unwrap_or, sym, refl, ap, ◌∙◌, subst, inl, inr, ⊎_elim, arith}
+use Rattle.std.proofs.Common.{◌≡◌, ℕ, ◌+◌, ◌<◌, ◌≤◌, true, false, cond, eqb, ◌⊎◌, List, [], ◌∷◌, Some, None, unwrap_or, sym, refl, ap, ◌∙◌, subst, inl, inr, ⊎_elim, arith}
 use Rattle.std.specs.List.{AllByRecursion as All}
 use Rattle.std.proofs.ByRecursion.{All-weaker}
 use Rattle.std.proofs.lemmas.Bool.{cases_Bool, cases_lt, eqb-true, eq-eqb, ne_eqb}
@@ -7,9 +7,8 @@ use Rattle.std.proofs.lemmas.Bool.Decides.{nat_tests}
 use Rattle.ranked.specs.Ranked.{ahead}
 use Rattle.ranked.proofs.Orderly.{Orderly}
 use Rattle.ranked.proofs.Strict.{Strict, strict_same}
-use Rattle.sharing.specs.Totals.{one_if, total, count}
+use Rattle.sharing.specs.Totals.{one_if, count}
 use Rattle.rules.specs.declared.terms.Entry.{Entry}
-use Rattle.rules.specs.declared.terms.Order.{Order}
 use Rattle.rules.specs.declared.terms.Routed.{Routed}
 use Rattle.rules.specs.declared.terms.Side.{Side}
 use Rattle.rules.specs.declared.terms.Side.TheVariants.{Buy, Sell}
@@ -19,7 +18,7 @@ use Rattle.rules.specs.Laws.{holding}
 use Rattle.rules.specs.Model.{Model, Opening, entries, away}
 use Rattle.rules.specs.Ranks.{rank_of, rank_before}
 use Rattle.rules.specs.Sides.{other_side}
-use Rattle.rules.specs.Sound.{InRank, GoodEntry, standing_with, Sound}
+use Rattle.rules.specs.Sound.{InRank, GoodEntry, Sound}
 use Rattle.rules.proofs.CallsKeep.{side_once}
 use Rattle.rules.proofs.InRank.{rank_transitive}
 use Rattle.rules.proofs.Moves.{good_side}

@@ -1,10 +1,10 @@
 -- Entries and returns keep the records tied to the book. Assumes nothing.
-use Rattle.std.proofs.Common.{◌≡◌, ℕ, ◌+◌, ◌-◌, ◌<◌, ◌≤◌, Bool, true, false, cond, not, eqb, ltb, List, [], ◌∷◌, ◌++◌, is_some, Some, None, filter, Option, unwrap_or, sym, refl, ap, ◌∙◌, subst, ⊎_elim, arith}
+use Rattle.std.proofs.Common.{◌≡◌, ℕ, ◌+◌, ◌-◌, ◌<◌, ◌≤◌, Bool, true, false, cond, not, eqb, List, [], ◌∷◌, ◌++◌, Some, None, Option, unwrap_or, sym, refl, ap, ◌∙◌, subst, ⊎_elim, arith}
 use Rattle.std.specs.List.{AllByRecursion as All}
 use Rattle.std.proofs.ByRecursion.{all_kept_by}
 use Rattle.std.proofs.lemmas.Bool.{false≢true, cases_Bool, cond_both, cond-true, cond-false, eqb-true, eq-eqb, ne_eqb, ltb-false}
 use Rattle.sharing.specs.Sharing.{Sharing, Lawful}
-use Rattle.sharing.specs.Totals.{total, count}
+use Rattle.sharing.specs.Totals.{total}
 use Rattle.rules.specs.declared.numbers.Cause.TheVariants.{LeastSize}
 use Rattle.rules.specs.declared.numbers.Refusal.{Refusal}
 use Rattle.rules.specs.declared.numbers.Refusal.TheVariants.{NotOutHere}
@@ -17,8 +17,8 @@ use Rattle.rules.specs.declared.terms.Side.TheVariants.{Buy, Sell}
 use Rattle.rules.specs.Calls.{Entering, reference, entry_checks, capped, least_missed, missed, entry_of, Returning, without_row, return_checks, returned, return_of}
 use Rattle.rules.specs.Caps.{cap_of}
 use Rattle.rules.specs.Laws.{LeftOf}
-use Rattle.rules.specs.Model.{Model, Opening, entries, away, with_entries, with_out, with_last_id, national_best, best}
-use Rattle.rules.specs.Outcome.{Done, Outcome, lent_checks, row_with}
+use Rattle.rules.specs.Model.{Model, Opening, entries, away, with_entries, with_out, with_last_id, best}
+use Rattle.rules.specs.Outcome.{Done, lent_checks, row_with}
 use Rattle.rules.specs.Outcome.Outcome.{refused, done}
 use Rattle.rules.specs.Prices.{is_price, national}
 use Rattle.rules.specs.Sides.{other_side}
@@ -31,12 +31,12 @@ use Rattle.rules.proofs.Moves.{given_back, stands_nowhere}
 use Rattle.laws.specs.Accounts.{traded_by, lost_by, sent_by, by_return, account}
 use Rattle.laws.specs.Balanced.{resting}
 use Rattle.laws.specs.Facts.{arrived, clock, away_price}
-use Rattle.laws.specs.Histories.{LawfulRule, Call, Told}
+use Rattle.laws.specs.Histories.{LawfulRule, Told}
 use Rattle.laws.specs.Histories.Call.{enters, returns}
 use Rattle.laws.specs.Histories.Told.{carried_out}
-use Rattle.laws.specs.Standing.{Known, Standing, national_told}
+use Rattle.laws.specs.Standing.{Known, national_told}
 use Rattle.laws.proofs.AfterTrade.{comes_steady, comes_sized, beside, TradeTold, opening_ended, clock_ended, knows_ended, rows_ended, away_ended}
-use Rattle.laws.proofs.Booked.{out_with, Plain, Walked, traded_walked, TradeBooked, trade_booked}
+use Rattle.laws.proofs.Booked.{out_with, Plain, traded_walked, TradeBooked, trade_booked}
 use Rattle.laws.proofs.Quiet.{Next, tied_refused}
 use Rattle.laws.proofs.ById.{found_having, removed_having}
 use Rattle.laws.proofs.Tied.{Comes, Tied, standing_book}

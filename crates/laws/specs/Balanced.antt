@@ -1,7 +1,6 @@
 -- Accounts that balance. Assumes nothing.
 use Rattle.std.specs.Prelude.{◌≡◌, ℕ, ◌+◌, cond, List}
 use Rattle.sharing.specs.Totals.{total}
-use Rattle.rules.specs.declared.terms.Order.{Order}
 use Rattle.rules.specs.declared.terms.Side.{Side}
 use Rattle.rules.specs.declared.terms.Side.TheVariants.{Buy, Sell}
 use Rattle.rules.specs.Laws.{holding}

@@ -1,5 +1,5 @@
 -- The laws over whole histories, and the form that a public call carries. Assumes nothing.
-use Rattle.std.specs.Prelude.{◌≡◌, ℕ, ◌-◌, List, [], ◌∷◌, Some, None, Option}
+use Rattle.std.specs.Prelude.{◌≡◌, ℕ, ◌-◌, List, [], ◌∷◌, Some, Option}
 use Rattle.sharing.specs.Sharing.{Sharing}
 use Rattle.rules.specs.declared.tape.Line.{Line}
 use Rattle.rules.specs.declared.terms.Entry.{Entry}

@@ -1,8 +1,7 @@
 -- The makers' guarantee, and floors. Assumes nothing.
-use Rattle.std.specs.Prelude.{◌≡◌, ℕ, ◌≤◌, min, Bool, true, false, List, map}
+use Rattle.std.specs.Prelude.{◌≡◌, ℕ, ◌≤◌, min, Bool, true, false, map}
 use Rattle.std.specs.List.{AllZip, AllByRecursion as All}
 use Rattle.sharing.specs.Totals.{total, count}
-use Rattle.rules.specs.declared.tape.Line.{Line}
 use Rattle.rules.specs.declared.tape.Step.{Step}
 use Rattle.rules.specs.declared.tape.Step.TheVariants.{CustomerMarketOrders, OtherMarketOrders, CustomerLimitOrders, GuaranteedQuotes, OtherInterest}
 use Rattle.rules.specs.declared.terms.Entry.{Entry}

@@ -1,5 +1,5 @@
 -- An order that comes to the other side in a call, what stands there, and how its tape is read. Assumes nothing.
-use Rattle.std.specs.Prelude.{ℕ, ◌-◌, Bool, true, false, cond, not, ◌&&◌, ◌||◌, List, filter, Option, ◌==◌, nat_eq, nat_le, nat_lt}
+use Rattle.std.specs.Prelude.{ℕ, ◌-◌, Bool, cond, not, ◌&&◌, ◌||◌, List, filter, Option, ◌==◌, nat_eq, nat_le, nat_lt}
 use Rattle.sharing.specs.Sharing.{Sharing}
 use Rattle.sharing.specs.Totals.{total}
 use Rattle.rules.specs.declared.tape.Line.{Line}

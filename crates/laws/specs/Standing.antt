@@ -1,9 +1,8 @@
 -- The entries that stand on a side, as the records tell, and an order's cap. Assumes nothing.
-use Rattle.std.specs.Prelude.{◌≡◌, ℕ, ◌≤◌, List, Some, None, Option, nat_eq}
+use Rattle.std.specs.Prelude.{◌≡◌, ℕ, ◌≤◌, List, Some, Option, nat_eq}
 use Rattle.std.specs.List.{AllByRecursion as All}
 use Rattle.sharing.specs.Totals.{count}
 use Rattle.rules.specs.declared.terms.Entry.{Entry}
-use Rattle.rules.specs.declared.terms.Order.{Order}
 use Rattle.rules.specs.declared.terms.Side.{Side}
 use Rattle.rules.specs.Caps.{cap_of}
 use Rattle.rules.specs.Checks.{unpriced}

@@ -1,5 +1,5 @@
 -- A worked history: a dozen accepted calls and a refused one, which the definitions are proved to give. Assumes nothing.
-use Rattle.std.specs.Prelude.{◌≡◌, ℕ, Bool, true, false, List, [], ◌∷◌, map, Some, None, Option}
+use Rattle.std.specs.Prelude.{◌≡◌, ℕ, Bool, true, false, List, [], ◌∷◌, map, Some, None}
 use Rattle.sharing.specs.Rules.{size_pro_rata}
 use Rattle.sharing.specs.Sharing.{Lawful}
 use Rattle.rules.specs.declared.numbers.Cause.TheVariants.{OwnFirm, Immediate}

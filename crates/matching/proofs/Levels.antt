@@ -1,5 +1,5 @@
 -- One price: what its parts ask, one after another, and what they come to. Assumes nothing.
-use Rattle.std.proofs.Common.{◌≡◌, ℕ, ◌+◌, ◌<◌, ◌≤◌, Bool, not, List, [], ◌∷◌, ◌++◌, map, length, filter, Option, sym, refl, ap, ◌∙◌, subst, arith, length-append}
+use Rattle.std.proofs.Common.{◌≡◌, ℕ, ◌+◌, ◌≤◌, Bool, not, List, map, length, filter, sym, refl, ap, subst, arith, length-append}
 use Rattle.std.specs.List.{AllByRecursion as All}
 use Rattle.std.proofs.ByRecursion.{all_kept_by, All-weaker}
 use Rattle.std.proofs.lemmas.List.{length-map}
@@ -14,7 +14,7 @@ use Rattle.rules.specs.declared.terms.Entry.{Entry}
 use Rattle.rules.specs.declared.terms.Routed.{Routed}
 use Rattle.rules.specs.Checks.{is_barred}
 use Rattle.rules.specs.Laws.{Tradable}
-use Rattle.rules.specs.Level.{Deal, step, step_all, in_class, makers, barred_line, unbarred, level}
+use Rattle.rules.specs.Level.{Deal, step_all, in_class, makers, barred_line, unbarred, level}
 use Rattle.rules.specs.Ranks.{class_of}
 use Rattle.rules.proofs.Held.{by_time_kept, length_kept}
 use Rattle.rules.proofs.Leaves.{level_short}

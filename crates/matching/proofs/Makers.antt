@@ -1,6 +1,5 @@
 -- What steps 4 and 5 may ask of a rule, and that they have room. Assumes nothing.
-use Rattle.std.proofs.Common.{◌≡◌, ℕ, ◌+◌, ◌-◌, ◌<◌, ◌≤◌, min, Bool, true, false, cond, not, ◌&&◌, leb, ◌⊎◌, List, [], ◌∷◌, ◌++◌, map, length, filter, Option, sym, refl, ap, ◌∙◌, subst, inl, inr, ⊎_elim, arith, length-append}
-use Rattle.std.specs.List.{AllByRecursion as All}
+use Rattle.std.proofs.Common.{◌≡◌, ℕ, ◌+◌, ◌<◌, ◌≤◌, Bool, true, false, not, ◌&&◌, leb, ◌⊎◌, List, map, length, filter, Option, sym, refl, ap, ◌∙◌, subst, ⊎_elim, arith, length-append}
 use Rattle.std.proofs.ByRecursion.{All-weaker}
 use Rattle.std.proofs.lemmas.Bool.{and_parts, eqb-true, le-leb, lt-leb}
 use Rattle.sharing.specs.Claims.{Shareable}
@@ -8,14 +7,13 @@ use Rattle.sharing.specs.Sharing.{Sharing, Lawful}
 use Rattle.sharing.specs.Totals.{total}
 use Rattle.sharing.specs.Allotted.{total_few}
 use Rattle.rules.specs.declared.tape.Line.{Line}
-use Rattle.rules.specs.declared.tape.Step.{Step}
 use Rattle.rules.specs.declared.tape.Step.TheVariants.{GuaranteedQuotes, OtherInterest}
 use Rattle.rules.specs.declared.terms.Entry.{Entry}
 use Rattle.rules.specs.Guarantee.{group_amount}
 use Rattle.rules.specs.Laws.{Tradable}
 use Rattle.rules.specs.Level.{size_of, claim_of, Deal, step, step_all, in_class, in_group, acts, makers}
 use Rattle.rules.specs.Ranks.{class_of}
-use Rattle.rules.proofs.Held.{held, held_kept}
+use Rattle.rules.proofs.Held.{held_kept}
 use Rattle.rules.proofs.OnePrice.{group_and_others, held_mono, group_class}
 use Rattle.rules.proofs.Steps.{step_shareable, tradable_after}
 use Rattle.matching.proofs.Deals.{bare, step_all_adds, StandsAs, room_next, then_next, acts_as, fourth_as, makers_act, makers_rest}

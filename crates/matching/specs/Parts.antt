@@ -1,5 +1,5 @@
 -- Which entries at a price take part in a step, and which are still there. Assumes nothing.
-use Rattle.std.specs.Prelude.{ℕ, Bool, not, ◌&&◌, List, filter, nat_lt}
+use Rattle.std.specs.Prelude.{Bool, not, ◌&&◌, List, filter, nat_lt}
 use Rattle.rules.specs.declared.terms.Entry.{Entry}
 use Rattle.rules.specs.Level.{in_class, quote_of, specialist}
 use Rattle.matching.specs.declared.parts.Group.{Group}

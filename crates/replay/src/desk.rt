@@ -1,7 +1,7 @@
 // Makes the calls of a sheet on a book, and prints what came of each.
 use crate::printing::{show_answer, show_line, show_refusal};
 use crate::reading::{Call, Means};
-use crate::tickets::{Held, Stop, keep, take};
+use crate::tickets::{Held, Stop, keep, leave, take};
 use book::{Accepted, Book, NotReturned};
 use rules::{Line, Order, Side};
 use sharing::{ByTime, Claim, Rule, SizeProRata};
@@ -200,11 +200,18 @@ pub fn show_end(rt: &impl Print, book: &mut Book<'_>, desk: &mut Desk) -> io::Re
 
 // Gives a ticket back with nothing executed.
 fn give_one_back(book: &mut Book<'_>, one: Held) -> Result<(), Stop> {
-    let Held { id, side, ticket } = one;
+    let Held {
+        id: _,
+        side: _,
+        ticket,
+    } = one;
     let mut sheet = [NO_CLAIM; MOST];
     let mut tape = [NO_LINE; MOST];
     match book.give_back(&ByTime, ticket, 0, &mut sheet, &mut tape) {
-        Err(NotReturned { refusal: _, ticket }) => Err(Stop::Left(Held { id, side, ticket })),
+        Err(NotReturned { refusal: _, ticket }) => {
+            leave(ticket);
+            Err(Stop::Left)
+        }
         Ok(_) => Ok(()),
     }
 }

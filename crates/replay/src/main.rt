@@ -9,7 +9,7 @@ mod tickets;
 use crate::desk::{Desk, give_all_back, make, show_end};
 use crate::printing::show_refusal;
 use crate::reading::{Opening, read_call, read_opening};
-use crate::tickets::{Held, Stop};
+use crate::tickets::{Held, Stop, leave};
 use book::{Book, check_opening};
 use rules::{Entry, Kind};
 use std::alloc::Global;
@@ -30,12 +30,6 @@ const NO_ENTRY: Entry = Entry {
     own_firm_mark: false,
 };
 
-// What the program ends with where it stops: tickets cannot be let go, so those that are held go with it.
-struct Ended {
-    stop: Stop,
-    held: Vec<Held>,
-}
-
 fn run(
     rt: &impl Print,
     book: &mut Book<'_>,
@@ -54,18 +48,14 @@ fn run(
 }
 
 // Ends the list of tickets, which is empty after a run to the end.
-fn end(held: Vec<Held>, res: Result<(), Stop>) -> Result<(), Ended> {
-    match res {
-        Err(stop) => Err(Ended { stop, held }),
-        Ok(()) => {
-            if held.is_empty() {
-                held.destroy_empty();
-                Ok(())
-            } else {
-                let stop = Stop::StillHeld;
-                Err(Ended { stop, held })
-            }
-        }
+fn end(held: Vec<Held>, res: Result<(), Stop>) -> Result<(), Stop> {
+    if held.is_empty() {
+        held.destroy_empty();
+        res
+    } else {
+        leave(held);
+        res?;
+        Err(Stop::StillHeld)
     }
 }
 
@@ -77,7 +67,7 @@ fn run_on(
     bids: &mut [Entry],
     offers: &mut [Entry],
     lines: Lines<'_>,
-) -> Result<(), Ended> {
+) -> Result<(), Stop> {
     let Opening { tick, series, .. } = opening;
     let held = Vec::new(heap);
     match check_opening(bids.len(), offers.len(), tick, series) {
@@ -96,19 +86,14 @@ fn run_on(
     }
 }
 
-fn run_with(
-    rt: &impl Print,
-    heap: Global,
-    opening: Opening,
-    lines: Lines<'_>,
-) -> Result<(), Ended> {
+fn run_with(rt: &impl Print, heap: Global, opening: Opening, lines: Lines<'_>) -> Result<(), Stop> {
     let Opening {
         bid_places,
         offer_places,
         ..
     } = opening;
     if bid_places > MOST || offer_places > MOST {
-        return end(Vec::new(heap), Err(Stop::Unreadable));
+        return Err(Stop::Unreadable);
     }
     let mut bids = [NO_ENTRY; MOST];
     let mut offers = [NO_ENTRY; MOST];
@@ -122,17 +107,14 @@ fn run_with(
     )
 }
 
-fn main(rt: HostRuntime) -> Result<(), Ended> {
+fn main(rt: HostRuntime) -> Result<(), Stop> {
     let heap = rt.alloc();
-    let text = match io::read_to_string(heap, rt.stdin()) {
-        Err(e) => return end(Vec::new(heap), Err(Stop::Failed(e))),
-        Ok(text) => text,
-    };
+    let text = io::read_to_string(heap, rt.stdin())?;
     let mut lines = text.as_str().lines();
     match lines.next() {
-        None => end(Vec::new(heap), Err(Stop::Unreadable)),
+        None => Err(Stop::Unreadable),
         Some(line) => match read_opening(line) {
-            None => end(Vec::new(heap), Err(Stop::Unreadable)),
+            None => Err(Stop::Unreadable),
             Some(opening) => run_with(&rt, heap, opening, lines),
         },
     }

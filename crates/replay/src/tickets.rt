@@ -2,6 +2,7 @@
 use book::Ticket;
 use rules::Side;
 use std::io;
+use std::mem::ManuallyDrop;
 
 pub struct Held {
     pub id: u64,
@@ -11,10 +12,11 @@ pub struct Held {
 
 // Why the program stops: an error, a line that cannot be read, a ticket that found no memory or was not taken back, or
 // tickets that are still held.
+#[derive(Debug, Drop)]
 pub enum Stop {
     Failed(io::Error),
     Unreadable,
-    Left(Held),
+    Left,
     StillHeld,
 }
 
@@ -22,6 +24,11 @@ impl From<io::Error> for Stop {
     fn from(e: io::Error) -> Stop {
         Stop::Failed(e)
     }
+}
+
+// A ticket cannot be let go, but where the program stops, those that it holds go with it.
+pub fn leave<T>(held: T) {
+    let _left = unsafe { ManuallyDrop::new_unchecked(held) };
 }
 
 fn place_of(held: &Vec<Held>, id: u64) -> Option<usize> {
@@ -36,7 +43,10 @@ fn place_of(held: &Vec<Held>, id: u64) -> Option<usize> {
 pub fn keep(held: &mut Vec<Held>, one: Held) -> Result<(), Stop> {
     match held.push(one) {
         Ok(()) => Ok(()),
-        Err(refused) => Err(Stop::Left(refused.value)),
+        Err(refused) => {
+            leave(refused.value);
+            Err(Stop::Left)
+        }
     }
 }
 

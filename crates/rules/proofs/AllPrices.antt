@@ -1,5 +1,5 @@
 -- From price to price: nothing is lost and nothing is made. Assumes nothing.
-use Rattle.std.proofs.Common.{◌≡◌, ℕ, ◌+◌, ◌<◌, ◌≤◌, Bool, true, false, cond, ◌&&◌, eqb, leb, List, [], ◌∷◌, ◌++◌, Option, sym, refl, ap, ◌∙◌, arith}
+use Rattle.std.proofs.Common.{◌≡◌, ℕ, ◌+◌, ◌≤◌, cond, ◌&&◌, eqb, leb, List, [], ◌∷◌, ◌++◌, Option, arith}
 use Rattle.std.specs.List.{AllByRecursion as All}
 use Rattle.std.proofs.ByRecursion.{All-weaker}
 use Rattle.std.proofs.lemmas.Bool.{cond_both}
@@ -8,7 +8,7 @@ use Rattle.sharing.specs.Totals.{one_if, total, count}
 use Rattle.sharing.specs.Allotted.{total_append}
 use Rattle.rules.specs.declared.terms.Entry.{Entry}
 use Rattle.rules.specs.declared.terms.Routed.{Routed}
-use Rattle.rules.specs.Laws.{traded_in, taken_from, holding, Tradable, names, LeftOf, Conserves, AllPrices}
+use Rattle.rules.specs.Laws.{traded_in, taken_from, holding, Tradable, names, LeftOf, AllPrices}
 use Rattle.rules.specs.Level.{Deal, level}
 use Rattle.rules.specs.Prices.{in_reach}
 use Rattle.rules.specs.Walk.{at_price, is_price_of, flat, walk}

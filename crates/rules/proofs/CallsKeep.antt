@@ -1,18 +1,16 @@
 -- Every accepted call leaves the book sound. Assumes nothing.
-use Rattle.std.proofs.Common.{◌≡◌, ℕ, ◌+◌, ◌-◌, ◌<◌, ◌≤◌, Bool, true, false, cond, not, ◌&&◌, ◌||◌, eqb, ltb, leb, ◌⊎◌, List, [], ◌∷◌, ◌++◌, map, length, is_some, Some, None, filter, Option, unwrap_or, sym, refl, ap, ◌∙◌, subst, inl, inr, ⊎_elim, arith}
+use Rattle.std.proofs.Common.{◌≡◌, ℕ, ◌+◌, ◌-◌, ◌<◌, ◌≤◌, Bool, true, false, cond, not, ◌&&◌, ◌||◌, eqb, ltb, leb, ◌⊎◌, List, [], ◌∷◌, ◌++◌, length, is_some, Some, None, filter, Option, unwrap_or, sym, refl, ap, ◌∙◌, subst, inl, inr, ⊎_elim, arith}
 use Rattle.std.specs.List.{AllByRecursion as All}
-use Rattle.std.proofs.lemmas.Bool.{true≢false, false≢true, cases_Bool, cond_both, cond-true, cond-false, and_parts, and_cases, or_parts, or_cases, not-true, not-false, eqb-true, eqb-false, eq-eqb, leb-true, leb-false, ltb-true, ltb-false}
+use Rattle.std.proofs.lemmas.Bool.{true≢false, false≢true, cases_Bool, cond_both, cond-true, cond-false, and_parts, or_parts, not-false, eqb-true, eqb-false, leb-true, leb-false, ltb-false}
 use Rattle.sharing.specs.Rules.{by_time}
 use Rattle.sharing.specs.Sharing.{Sharing}
-use Rattle.sharing.specs.Totals.{one_if, total, count}
-use Rattle.rules.specs.declared.numbers.Cause.{Cause}
+use Rattle.sharing.specs.Totals.{one_if, count}
 use Rattle.rules.specs.declared.numbers.Cause.TheVariants.{Immediate, AwayPrice, NoPlaceOnReturn}
 use Rattle.rules.specs.declared.numbers.Refusal.{Refusal}
 use Rattle.rules.specs.declared.numbers.Refusal.TheVariants.{FirmZero, AnotherFirms, NeitherRestingNorOut, OutOnRoute, NotOutHere}
 use Rattle.rules.specs.declared.tape.Step.{Step}
 use Rattle.rules.specs.declared.tape.Step.TheVariants.{CustomerMarketOrders, OtherMarketOrders, CustomerLimitOrders, GuaranteedQuotes, OtherInterest}
 use Rattle.rules.specs.declared.terms.Entry.{Entry}
-use Rattle.rules.specs.declared.terms.Order.{Order}
 use Rattle.rules.specs.declared.terms.Routed.{Routed}
 use Rattle.rules.specs.declared.terms.Side.{Side}
 use Rattle.rules.specs.declared.terms.Side.TheVariants.{Buy, Sell}
@@ -22,13 +20,13 @@ use Rattle.rules.specs.Checks.{market_ioc, bad_least, bad_quote}
 use Rattle.rules.specs.Laws.{LeftOf}
 use Rattle.rules.specs.Laws.LeftOf.{same, fewer}
 use Rattle.rules.specs.Level.{resized, Deal, step, in_class, in_group, acts, for_group, makers, unbarred, level}
-use Rattle.rules.specs.Model.{Model, Opening, Counters, entries, away, places, with_entries, with_away, with_out, with_counters, with_last_id, with_last_time, best, national_best, ranked_in}
-use Rattle.rules.specs.Outcome.{Done, Outcome, Check, checked, lent_checks, bad_price, found_in, entry_with, row_with, Standing, standing_by, standing}
-use Rattle.rules.specs.Outcome.Standing.{resting, out_on_route, nowhere}
+use Rattle.rules.specs.Model.{Model, Opening, entries, away, places, with_entries, with_away, with_out, with_last_id, with_last_time, best, national_best, ranked_in}
+use Rattle.rules.specs.Outcome.{Done, Outcome, Check, checked, lent_checks, bad_price, found_in, entry_with, row_with, standing_by}
+use Rattle.rules.specs.Outcome.Standing.{resting}
 use Rattle.rules.specs.Outcome.Outcome.{refused, done}
 use Rattle.rules.specs.Prices.{in_reach, is_tick, is_price, is_size}
 use Rattle.rules.specs.Sides.{other_side}
-use Rattle.rules.specs.Sound.{GoodEntry, GoodRow, GoodSide, standing_with, Sound, Keeps, Kept}
+use Rattle.rules.specs.Sound.{GoodEntry, GoodRow, standing_with, Sound, Keeps, Kept}
 use Rattle.rules.specs.Trade.{away_in_cap, Ending, ending, sized, resting_entry, ended, traded, finished, trade}
 use Rattle.rules.specs.Trade.Ending.{is_filled, is_routed, is_cancelled, rests}
 use Rattle.rules.specs.Walk.{at_price, is_price_of, runs, flat, walk}

@@ -1,17 +1,17 @@
 -- A cap is a price. Assumes nothing.
-use Rattle.std.proofs.Common.{◌≡◌, ℕ, ◌+◌, ◌-◌, ◌*◌, ◌%◌, ◌<◌, ◌≤◌, min, Bool, true, false, cond, not, ◌&&◌, ◌||◌, eqb, leb, ◌⊎◌, List, [], ◌∷◌, is_some, Some, None, Option, unwrap_or, sym, refl, ap, ◌∙◌, subst, inl, inr, ⊎_elim, arith}
+use Rattle.std.proofs.Common.{◌≡◌, ℕ, ◌+◌, ◌-◌, ◌*◌, ◌%◌, ◌≤◌, min, Bool, true, false, cond, not, ◌&&◌, eqb, leb, List, [], ◌∷◌, is_some, Some, None, Option, unwrap_or, sym, refl, ap, ◌∙◌, subst, ⊎_elim, arith}
 use Rattle.std.specs.List.{AllByRecursion as All}
 use Rattle.std.proofs.lemmas.Bool.{false≢true, true≢false, and_parts, and_from, eqb-true, eq-eqb, leb-true, le-leb, not-false, cond_both}
 use Rattle.rules.specs.declared.terms.Entry.{Entry}
 use Rattle.rules.specs.declared.terms.Side.{Side}
 use Rattle.rules.specs.declared.terms.Side.TheVariants.{Buy, Sell}
-use Rattle.rules.specs.Caps.{collar_amount, collar_of, tighter, collared, cap_at}
+use Rattle.rules.specs.Caps.{collar_amount, collar_of, cap_at}
 use Rattle.rules.specs.Model.{Counters, best}
 use Rattle.rules.specs.Outcome.{bad_price}
 use Rattle.rules.specs.Prices.{is_tick, is_price, national}
 use Rattle.rules.specs.Sides.{is_better}
 use Rattle.rules.specs.Sound.{GoodEntry}
-use Rattle.rules.proofs.Collars.{tick_cases, in_tens, price_whole}
+use Rattle.rules.proofs.Collars.{tick_cases, in_tens}
 
 price_parts : (tick p : ℕ) → is_price tick p ≡ true → (1 ≤ p) × (p ≤ 1000000) × (p % tick ≡ 0)
 price_parts tick p h =

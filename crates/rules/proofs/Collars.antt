@@ -1,13 +1,12 @@
 -- The rulebook's bands, its 25% and its rounding never alter a collar. Assumes nothing.
-use Rattle.std.proofs.Common.{◌≡◌, ℕ, ◌+◌, ◌-◌, ◌*◌, ◌/◌, ◌%◌, ◌<◌, ◌≤◌, min, Bool, true, false, cond, ◌&&◌, ◌||◌, eqb, ltb, leb, ◌⊎◌, Option, unwrap_or, sym, refl, ap, ◌∙◌, inl, inr, ⊎_elim, mul-add, arith}
-use Rattle.std.proofs.lemmas.Nat.{div-add-mod'}
-use Rattle.std.proofs.lemmas.Bool.{cond-true, cond-false, cond_both, eqb-true, leb-true, leb-false, ltb-false, ltb-true, lt-ltb, le-ltb, le-leb, lt-leb, or_cases, and_parts, cases_lt}
+use Rattle.std.proofs.Common.{◌≡◌, ℕ, ◌+◌, ◌-◌, ◌*◌, ◌%◌, ◌<◌, ◌≤◌, min, true, cond, ◌&&◌, ◌||◌, eqb, ltb, leb, ◌⊎◌, Option, unwrap_or, sym, refl, ap, ◌∙◌, inl, inr, ⊎_elim, arith}
+use Rattle.std.proofs.lemmas.Bool.{cond-true, cond-false, cond_both, eqb-true, lt-ltb, le-ltb, le-leb, lt-leb, or_cases, and_parts, cases_lt}
 use Rattle.std.proofs.lemmas.Bool.Decides.{nat_tests}
 use Rattle.rules.specs.declared.terms.Side.{Side}
 use Rattle.rules.specs.declared.terms.Side.TheVariants.{Buy, Sell}
 use Rattle.rules.specs.Caps.{collar_amount, collar_of}
 use Rattle.rules.specs.Prices.{is_tick, is_price}
-use Rattle.rules.specs.Rulebook.{lesser, band_amount, rounded_down, rulebook_collar}
+use Rattle.rules.specs.Rulebook.{band_amount, rounded_down, rulebook_collar}
 
 -- 25% of the reference is never the lesser where the rulebook asks for it
 band_is : (r : ℕ) → band_amount r ≡ 4 * collar_amount r

@@ -1,13 +1,11 @@
 -- Sides stay in rank: after what is left, after an insertion, after entries go. Assumes nothing.
-use Rattle.std.proofs.Common.{◌≡◌, ℕ, ◌+◌, ◌<◌, ◌≤◌, Bool, true, false, cond, not, eqb, List, [], ◌∷◌, map, length, filter, sym, refl, ap, ◌∙◌, subst, arith}
+use Rattle.std.proofs.Common.{◌≡◌, ℕ, ◌<◌, ◌≤◌, true, false, List, [], ◌∷◌, length, arith}
 use Rattle.std.specs.List.{AllByRecursion as All}
-use Rattle.std.proofs.ByRecursion.{all_kept_by, All-weaker}
+use Rattle.std.proofs.ByRecursion.{All-weaker}
 use Rattle.std.proofs.lemmas.Bool.{cond_both}
 use Rattle.std.proofs.lemmas.Bool.Decides.{nat_tests}
-use Rattle.ranked.specs.Ranked.{ahead, inserted}
-use Rattle.ranked.proofs.Orderly.{so, all_inserted_into, length_inserted_into}
-use Rattle.sharing.specs.Totals.{one_if, total, count}
-use Rattle.sharing.specs.Ordered.{total_all_inserted}
+use Rattle.ranked.specs.Ranked.{ahead}
+use Rattle.ranked.proofs.Orderly.{so, all_inserted_into}
 use Rattle.rules.specs.declared.terms.Entry.{Entry}
 use Rattle.rules.specs.declared.terms.Side.{Side}
 use Rattle.rules.specs.declared.terms.Side.TheVariants.{Buy, Sell}

@@ -1,9 +1,9 @@
 -- What is left of entries, and how many lines name one. Assumes nothing.
-use Rattle.std.proofs.Common.{◌≡◌, ℕ, ◌+◌, ◌-◌, ◌<◌, ◌≤◌, Bool, true, false, cond, not, ◌&&◌, eqb, ltb, leb, List, [], ◌∷◌, ◌++◌, map, length, filter, Option, sym, refl, ap, ◌∙◌, subst, arith}
+use Rattle.std.proofs.Common.{◌≡◌, ℕ, ◌+◌, ◌-◌, ◌≤◌, Bool, true, false, cond, not, ◌&&◌, eqb, ltb, List, [], ◌∷◌, ◌++◌, map, length, filter, Option, refl, ap, ◌∙◌, arith}
 use Rattle.std.proofs.lemmas.Bool.{false≢true, cond_both, ltb-true}
 use Rattle.sharing.specs.Rules.{by_time}
 use Rattle.sharing.specs.Sharing.{Sharing}
-use Rattle.sharing.specs.Totals.{one_if, total, count}
+use Rattle.sharing.specs.Totals.{one_if, count}
 use Rattle.sharing.specs.Allotted.{total_append}
 use Rattle.rules.specs.declared.tape.Line.{Line}
 use Rattle.rules.specs.declared.tape.Line.TheVariants.{Fill}

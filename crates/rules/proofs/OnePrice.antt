@@ -1,10 +1,10 @@
 -- One price under any lawful rule: the order or the price is exhausted. Assumes nothing.
-use Rattle.std.proofs.Common.{◌≡◌, ℕ, ◌+◌, ◌-◌, ◌*◌, ◌/◌, ◌<◌, ◌≤◌, min, max, Bool, true, false, cond, not, ◌&&◌, eqb, ltb, leb, ◌⊎◌, List, [], ◌∷◌, ◌++◌, map, length, Some, None, filter, Option, sym, refl, ap, ◌∙◌, subst, inl, inr, ⊎_elim, mul-le-mul_right, mul_comm, add-mul, mul-le-mul_left, mul-add, arith}
+use Rattle.std.proofs.Common.{◌≡◌, ℕ, ◌+◌, ◌-◌, ◌*◌, ◌/◌, ◌<◌, ◌≤◌, min, Bool, true, false, cond, not, ◌&&◌, eqb, ltb, leb, List, [], ◌∷◌, map, Some, None, filter, Option, sym, refl, ap, ◌∙◌, subst, inl, inr, ⊎_elim, mul-le-mul_right, mul_comm, add-mul, mul-le-mul_left, mul-add, arith}
 use native.Mathlib.Nat.{div-le_of_le-mul}
 use Rattle.std.specs.List.{AllByRecursion as All}
 use Rattle.std.proofs.lemmas.Nat.{le-div}
 use Rattle.std.proofs.ByRecursion.{all_kept_by}
-use Rattle.std.proofs.lemmas.Bool.{false≢true, and_parts, eqb-true, eq-eqb, ne_eqb, not-true, cond_both, cond-true, cond-false, leb-true, cases_Bool, cases_lt}
+use Rattle.std.proofs.lemmas.Bool.{false≢true, and_parts, eqb-true, ne_eqb, cond_both, leb-true, cases_Bool, cases_lt}
 use Rattle.sharing.specs.Rules.{by_time}
 use Rattle.sharing.specs.Sharing.{Sharing, Lawful}
 use Rattle.sharing.specs.Totals.{total, count}
@@ -12,14 +12,13 @@ use Rattle.sharing.specs.InTurn.{by_time_lawful}
 use Rattle.rules.specs.declared.tape.Step.{Step}
 use Rattle.rules.specs.declared.tape.Step.TheVariants.{CustomerMarketOrders, OtherMarketOrders, CustomerLimitOrders, GuaranteedQuotes, OtherInterest}
 use Rattle.rules.specs.declared.terms.Entry.{Entry}
-use Rattle.rules.specs.declared.terms.Routed.{Routed}
 use Rattle.rules.specs.Checks.{is_barred}
 use Rattle.rules.specs.Guarantee.{guaranteed, group_amount}
-use Rattle.rules.specs.Laws.{traded_in, taken_from, holding, Tradable, Exhausts, OnePrice}
+use Rattle.rules.specs.Laws.{traded_in, taken_from, holding, Tradable, OnePrice}
 use Rattle.rules.specs.Level.{size_of, resized, Deal, step, in_class, quote_of, specialist, in_group, acts, for_group, makers, barred_line, unbarred, step_all, level}
 use Rattle.rules.specs.Ranks.{class_of, is_customer}
 use Rattle.rules.proofs.Held.{held, held_kept, by_time_kept, length_kept}
-use Rattle.rules.proofs.Steps.{after, balance_after, held_apart, held_within, traded_after, accounts_after, tradable_after}
+use Rattle.rules.proofs.Steps.{balance_after, held_apart, held_within, traded_after, accounts_after, tradable_after}
 
 -- a balance was offered to all of one class
 record Offers (class : ℕ) (d e : Deal) : Type 0 where

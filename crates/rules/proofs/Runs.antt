@@ -1,5 +1,5 @@
 -- In a sound side what stands at each price meets what the laws of a price ask. Assumes nothing.
-use Rattle.std.proofs.Common.{◌≡◌, ℕ, ◌+◌, ◌<◌, ◌≤◌, Bool, true, false, cond, eqb, List, [], ◌∷◌, length, sym, refl, ap, ◌∙◌, subst, arith}
+use Rattle.std.proofs.Common.{◌≡◌, ℕ, ◌+◌, ◌<◌, ◌≤◌, true, eqb, List, [], ◌∷◌, length, sym, refl, ◌∙◌, subst, arith}
 use Rattle.std.specs.List.{AllByRecursion as All}
 use Rattle.std.proofs.ByRecursion.{All-weaker}
 use Rattle.std.proofs.lemmas.Bool.{cond_both, eqb-true}
@@ -10,7 +10,7 @@ use Rattle.rules.specs.declared.terms.Side.TheVariants.{Buy, Sell}
 use Rattle.rules.specs.Laws.{ByTime, Tradable}
 use Rattle.rules.specs.Model.{Model, Counters, entries}
 use Rattle.rules.specs.Ranks.{class_of, rank_of, rank_before}
-use Rattle.rules.specs.Sound.{InRank, GoodEntry, GoodSide, Sound, AlwaysTradable}
+use Rattle.rules.specs.Sound.{InRank, GoodEntry, Sound, AlwaysTradable}
 use Rattle.rules.specs.Walk.{into_runs, runs}
 use Rattle.rules.proofs.Moves.{good_side}
 

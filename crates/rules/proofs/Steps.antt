@@ -1,7 +1,7 @@
 -- One step under any lawful rule. Assumes nothing.
-use Rattle.std.proofs.Common.{◌≡◌, ℕ, ◌+◌, ◌-◌, ◌<◌, ◌≤◌, min, Bool, true, false, cond, not, eqb, List, [], ◌∷◌, ◌++◌, map, length, filter, sym, refl, ap, ◌∙◌, subst, arith}
+use Rattle.std.proofs.Common.{◌≡◌, ℕ, ◌+◌, ◌-◌, ◌<◌, ◌≤◌, min, Bool, true, false, eqb, List, map, length, filter, refl, ap, ◌∙◌, subst, arith}
 use mathlib.Core.List.{map-map}
-use Rattle.std.specs.List.{AllZip, AllByRecursion as All}
+use Rattle.std.specs.List.{AllZip}
 use Rattle.std.proofs.lemmas.List.Elements.{length_all_zip}
 use Rattle.std.proofs.ByRecursion.{all_kept_by, All-map}
 use Rattle.std.proofs.lemmas.List.{length-map}
@@ -14,9 +14,9 @@ use Rattle.sharing.specs.ToppedUp.{total_map}
 use Rattle.rules.specs.declared.tape.Step.{Step}
 use Rattle.rules.specs.declared.terms.Entry.{Entry}
 use Rattle.rules.specs.Laws.{traded_in, taken_from, holding, Tradable}
-use Rattle.rules.specs.Level.{size_of, claim_of, spread, resized, left_after, fills, Deal, step}
+use Rattle.rules.specs.Level.{size_of, claim_of, spread, resized, fills, Deal, step}
 use Rattle.rules.specs.Ranks.{class_of}
-use Rattle.rules.proofs.Held.{held, held_kept, held_left, given_by, given_away, given_within, spread_within, total_fills, taken_fills, sized_left, length_left, by_time_left, length_kept, ascending_kept}
+use Rattle.rules.proofs.Held.{held, held_kept, held_left, given_away, given_within, spread_within, total_fills, taken_fills, sized_left, length_left, by_time_left, length_kept, ascending_kept}
 
 module _ (k : Step) (test : Entry → Bool) (rule : Sharing) (lawful : Lawful rule) (amount : ℕ) (d : Deal)
     (class : ℕ) (one : (e : Entry) → test e ≡ true → class_of e ≡ class) (ok : Tradable d.balance d.run) (small : amount < 100000) where

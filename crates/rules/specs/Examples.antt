@@ -1,20 +1,17 @@
 -- Worked examples, which the definitions are proved to give. Assumes nothing.
-use Rattle.std.specs.Prelude.{◌≡◌, ℕ, true, false, List, [], ◌∷◌, Some, None, Option}
+use Rattle.std.specs.Prelude.{◌≡◌, ℕ, true, false, [], ◌∷◌, Some, None, Option}
 use Rattle.sharing.specs.Examples as shares
 use Rattle.sharing.specs.Sharing.{Sharing}
 use Rattle.rules.specs.declared.numbers.Cause.TheVariants.{LeastSize}
-use Rattle.rules.specs.declared.tape.Line.{Line}
 use Rattle.rules.specs.declared.tape.Line.TheVariants.{Cancel}
 use Rattle.rules.specs.declared.terms.Entry.{Entry}
 use Rattle.rules.specs.declared.terms.Kind.TheVariants.{Other, MakerQuote}
-use Rattle.rules.specs.declared.terms.Order.{Order}
 use Rattle.rules.specs.declared.terms.Side.TheVariants.{Buy, Sell}
 use Rattle.rules.specs.declared.terms.Term.TheVariants.{ImmediateOrCancel}
 use Rattle.rules.specs.Calls.{Entering, entry_of}
 use Rattle.rules.specs.Caps.{collar_of}
 use Rattle.rules.specs.Guarantee.{group_amount}
 use Rattle.rules.specs.Model.{Model}
-use Rattle.rules.specs.Outcome.{Outcome}
 use Rattle.rules.specs.Outcome.Outcome.{done}
 
 -- a quote to sell at 105, with the own-firm mark

@@ -1,17 +1,16 @@
 -- What every call keeps of the book. Assumes nothing.
-use Rattle.std.specs.Prelude.{◌≡◌, ℕ, ◌+◌, ◌<◌, ◌≤◌, Bool, true, false, List, [], ◌∷◌, length, nat_eq}
+use Rattle.std.specs.Prelude.{◌≡◌, ℕ, ◌+◌, ◌<◌, ◌≤◌, true, false, List, [], ◌∷◌, length, nat_eq}
 use Rattle.std.specs.List.{AllByRecursion as All}
 use Rattle.sharing.specs.Sharing.{Sharing}
 use Rattle.sharing.specs.Totals.{count}
-use Rattle.rules.specs.declared.numbers.Refusal.{Refusal}
 use Rattle.rules.specs.declared.terms.Entry.{Entry}
 use Rattle.rules.specs.declared.terms.Routed.{Routed}
 use Rattle.rules.specs.declared.terms.Side.{Side}
 use Rattle.rules.specs.declared.terms.Side.TheVariants.{Buy, Sell}
 use Rattle.rules.specs.Calls.{Entering, entry_of, Returning, return_of, Resizing, resize_of, Cancelling, cancel_of, Updating, market_of, opening_of}
 use Rattle.rules.specs.Laws.{Tradable}
-use Rattle.rules.specs.Model.{Model, Opening, Counters, entries, away, places}
-use Rattle.rules.specs.Outcome.{Done, Outcome, bad_price}
+use Rattle.rules.specs.Model.{Model, Opening, Counters, entries}
+use Rattle.rules.specs.Outcome.{Outcome, bad_price}
 use Rattle.rules.specs.Outcome.Outcome.{refused, done}
 use Rattle.rules.specs.Prices.{is_tick, is_price}
 use Rattle.rules.specs.Ranks.{rank_of, rank_before}

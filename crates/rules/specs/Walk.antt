@@ -1,12 +1,11 @@
 -- From price to price. Assumes nothing.
-use Rattle.std.specs.Prelude.{ℕ, Bool, true, false, cond, not, ◌&&◌, List, [], ◌∷◌, ◌++◌, Some, None, Option, ◌==◌, nat_le}
+use Rattle.std.specs.Prelude.{ℕ, Bool, false, cond, not, ◌&&◌, List, [], ◌∷◌, ◌++◌, Some, None, Option, ◌==◌, nat_le}
 use Rattle.sharing.specs.Sharing.{Sharing}
 use Rattle.sharing.specs.Totals.{total}
 use Rattle.rules.specs.declared.terms.Entry.{Entry}
 use Rattle.rules.specs.declared.terms.Routed.{Routed}
 use Rattle.rules.specs.Checks.{is_barred}
 use Rattle.rules.specs.Level.{Deal, level}
-use Rattle.rules.specs.Model.{best}
 use Rattle.rules.specs.Prices.{in_reach}
 
 -- an entry in front of runs of one price each

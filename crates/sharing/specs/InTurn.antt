@@ -1,9 +1,9 @@
 -- By time: its laws, and its loops. Assumes nothing.
-use Rattle.std.specs.Prelude.{◌≡◌, ℕ, zero, suc, ◌+◌, ◌-◌, ◌<◌, ◌≤◌, min, List, [], ◌∷◌, map, length, take, slice_index, slice_index_or, refl}
-use Rattle.std.proofs.Common.{sym, ap, ◌∙◌, arith}
+use Rattle.std.specs.Prelude.{◌≡◌, ℕ, zero, suc, ◌-◌, ◌<◌, ◌≤◌, min, List, [], ◌∷◌, map, length, take, slice_index, slice_index_or, refl}
+use Rattle.std.proofs.Common.{ap, ◌∙◌, arith}
 use Rattle.std.specs.List.{AllZip}
 use Rattle.sharing.specs.declared.claims.Claim.{Claim}
-use Rattle.sharing.specs.Claims.{size_of, with_allotment, allotted}
+use Rattle.sharing.specs.Claims.{size_of, allotted}
 use Rattle.sharing.specs.Rules.{in_turn, by_time}
 use Rattle.sharing.specs.Sharing.{Lawful}
 use Rattle.sharing.specs.Totals.{total}

@@ -1,7 +1,7 @@
 -- One contract more for the first claims in order. Assumes nothing.
-use Rattle.std.specs.Prelude.{◌≡◌, ℕ, zero, suc, ◌+◌, ◌<◌, ◌≤◌, min, Bool, true, false, cond, List, [], ◌∷◌, ◌++◌, map, length, get_or, take, drop, ◌==◌, nat_eq, nat_lt, slice_index_or, slice_set, refl}
+use Rattle.std.specs.Prelude.{◌≡◌, ℕ, zero, suc, ◌+◌, ◌<◌, min, Bool, true, false, List, [], ◌∷◌, ◌++◌, map, length, get_or, take, drop, ◌==◌, nat_eq, nat_lt, slice_index_or, slice_set, refl}
 use Rattle.std.proofs.Math.Path.{sym, ap}
-use Rattle.std.proofs.Common.{subst, ◌∙◌, one-add, length-append, length-drop}
+use Rattle.std.proofs.Common.{◌∙◌, one-add, length-append, length-drop}
 use native.Mathlib.Omega.{arith}
 use Rattle.std.specs.List.{AllByRecursion as All}
 use Rattle.std.proofs.ByRecursion.{All-weaker, All-map}
@@ -9,7 +9,7 @@ use Rattle.std.proofs.lemmas.List.{length-map, length-take-le, drop_more, get_or
 use Rattle.std.proofs.lemmas.List.Edits.{map_over_more}
 use Rattle.std.proofs.lemmas.Bool.{lt-ltb, le-ltb}
 use Rattle.std.proofs.lemmas.Bool.Decides.{nat_tests}
-use Rattle.ranked.specs.Ranked.{Sorted, all_inserted}
+use Rattle.ranked.specs.Ranked.{all_inserted}
 use Rattle.ranked.proofs.Orderly.{Orderly, not_so, clash, sorted_all_inserted}
 use Rattle.ranked.proofs.Strict.{Strict, strict_same, all_into, all_out}
 use Rattle.sharing.specs.declared.claims.Claim.{Claim}
@@ -17,7 +17,7 @@ use Rattle.sharing.specs.Claims.{with_allotment, allotted, Ascending, remaining,
 use Rattle.sharing.specs.Rules.{one_more, topped}
 use Rattle.sharing.specs.Totals.{one_if, total, count}
 use Rattle.sharing.specs.Allotted.{no_claim}
-use Rattle.sharing.specs.Ordered.{total_all_inserted, Distinct, ascending_distinct, strict_from_sorted}
+use Rattle.sharing.specs.Ordered.{total_all_inserted, ascending_distinct, strict_from_sorted}
 
 pub map_same : {X Y : Type 0} (f g : X → Y) (xs : List X) → All (λ x. f x ≡ g x) xs → map f xs ≡ map g xs
 map_same f g [] same = refl

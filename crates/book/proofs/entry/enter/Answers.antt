@@ -1,10 +1,9 @@
-use Rattle.std.proofs.Common.{◌≡◌, false, length, is_some, Ok, Err, sym, refl, ap, ◌∙◌, subst}
+use Rattle.std.proofs.Common.{◌≡◌, length, is_some, Ok, Err, sym, refl, ap, ◌∙◌, subst}
 use Rattle.std.proofs.lemmas.Bool.{true≢false}
-use Rattle.rules.specs.Calls.{Entering, entry_checks, entry_of}
-use Rattle.rules.specs.Outcome.Outcome.{refused, done}
+use Rattle.rules.specs.Calls.{Entering, entry_checks}
 use Rattle.book.specs.Answers.{Settles}
 use Rattle.book.specs.Books.{model}
-use Rattle.book.specs.Entries.{carried, taped}
+use Rattle.book.specs.Entries.{taped}
 use Rattle.book.specs.declared.trade.Traded.{Traded}
 use Rattle.book.proofs.Entered.{first_none, entry_refused, entry_done}
 use Rattle.book.proofs.entry.enter.Goals as goal

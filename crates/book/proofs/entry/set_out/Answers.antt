@@ -1,5 +1,4 @@
-use Rattle.std.proofs.Common.{◌≡◌, length, is_some, sym, refl, ap, ◌∙◌, arith}
-use Rattle.rules.specs.declared.tape.Line.TheVariants.{Cancel}
+use Rattle.std.proofs.Common.{length, is_some, sym, refl, ap, ◌∙◌, arith}
 use Rattle.rules.specs.Calls.{Entering}
 use Rattle.rules.specs.Outcome.{Done}
 use Rattle.rules.proofs.CallsKeep.{entry_fits, counted_sound}

@@ -1,4 +1,4 @@
-use Rattle.std.proofs.Common.{refl, arith}
+use Rattle.std.proofs.Common.{refl}
 use Rattle.book.specs.Standings.{entry_id}
 use Rattle.book.proofs.Finding.{found_here, found_on, found_not}
 use Rattle.book.proofs.Standings.{no_entry}

@@ -1,11 +1,11 @@
-use Rattle.std.proofs.Common.{◌≡◌, true, false, cond, [], None, Ok, Err, sym, refl, ap, ◌∙◌, subst}
+use Rattle.std.proofs.Common.{Ok, Err, sym, refl, ap, ◌∙◌, subst}
 use Rattle.std.proofs.lemmas.Bool.{cond-true, cond-false}
 use Rattle.rules.specs.declared.numbers.Refusal.TheVariants.{BadPrice}
 use Rattle.rules.specs.declared.terms.Side.TheVariants.{Buy, Sell}
 use Rattle.rules.specs.Calls.{market_of}
-use Rattle.rules.specs.Model.{Model, with_away}
-use Rattle.rules.specs.Outcome.{Outcome, bad_price}
-use Rattle.rules.specs.Outcome.Outcome.{refused, done}
+use Rattle.rules.specs.Model.{with_away}
+use Rattle.rules.specs.Outcome.{bad_price}
+use Rattle.rules.specs.Outcome.Outcome.{refused}
 use Rattle.book.specs.Answers.{Settles}
 use Rattle.book.specs.Books.{model}
 use Rattle.book.proofs.market.market.Goals as goal

@@ -1,4 +1,4 @@
-use Rattle.std.proofs.Common.{sym, ◌∙◌, arith, rules}
+use Rattle.std.proofs.Common.{sym, ◌∙◌, arith}
 use Rattle.rules.specs.Checks.{is_barred}
 use Rattle.matching.proofs.Barred.{stays, goes, barring_none, barred_left, barred_tape, barred_place}
 use Rattle.matching.proofs.Shown.{no_entry}

@@ -1,8 +1,8 @@
-use Rattle.std.proofs.Common.{◌≡◌, ℕ, ◌+◌, ◌<◌, ◌≤◌, not, ◌&&◌, length, filter, sym, ap, ◌∙◌, subst, inl, inr, ⊎_elim, arith}
+use Rattle.std.proofs.Common.{◌≡◌, ◌≤◌, not, ◌&&◌, filter, ◌∙◌, inl, inr, ⊎_elim, arith}
 use Rattle.sharing.specs.Totals.{total}
 use Rattle.rules.specs.declared.tape.Step.TheVariants.{GuaranteedQuotes, OtherInterest}
 use Rattle.rules.specs.Guarantee.{group_amount}
-use Rattle.rules.specs.Level.{size_of, step, in_class, acts}
+use Rattle.rules.specs.Level.{size_of, step, in_class}
 use Rattle.matching.specs.Parts.{group_test, live}
 use Rattle.matching.proofs.Deals.{bare, StandsAs}
 use Rattle.matching.proofs.Makers.{few_contracts, class_shareable, no_more, asks_4, within_4, room_4, asks_5, room_5, acted, unmoved, room_only, rested}

@@ -1,6 +1,4 @@
-use Rattle.std.proofs.Common.{◌≡◌, ℕ, ◌+◌, ◌-◌, ◌<◌, ◌≤◌, true, Option, sym, ap, ◌∙◌, arith}
-use Rattle.rules.specs.declared.terms.Side.{Side}
-use Rattle.rules.specs.declared.terms.Side.TheVariants.{Sell}
+use Rattle.std.proofs.Common.{◌+◌, ◌-◌, ◌<◌, sym, ap, ◌∙◌, arith}
 use Rattle.rules.specs.Caps.{collar_amount, collar_of}
 use Rattle.rules.proofs.Collars.{seller_above, seller_below, rulebook_gives}
 use Rattle.rules.proofs.terms.Side.collar.Goals as goal

@@ -1,4 +1,4 @@
-use Rattle.std.proofs.Common.{◌≡◌, ◌-◌, ◌≤◌, take}
+use Rattle.std.proofs.Common.{◌≡◌, ◌-◌, take}
 use Rattle.sharing.specs.Claims.{size_of}
 use Rattle.sharing.specs.Rules.{in_turn}
 use Rattle.sharing.specs.Totals.{total}
