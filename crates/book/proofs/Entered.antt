@@ -1,6 +1,6 @@
 -- An entry that no check refuses: what it may ask of trading, and what it comes to. Assumes nothing.
 use Rattle.std.proofs.Common.{◌≡◌, ℕ, ◌+◌, ◌<◌, ◌≤◌, Bool, false, ltb, List, [], ◌∷◌, length, set, is_some, Some, None, unwrap_or, sym, refl, ap, ◌∙◌, ⊎_elim, arith}
-use Rattle.std.specs.List.{AllByRecursion as All}
+use Rattle.std.specs.List.{AllByRecursion}
 use Rattle.std.proofs.lemmas.Bool.{false≢true, cases_Bool, cond-true, cond-false, lt-ltb, le-ltb, ltb-false}
 use Rattle.sharing.specs.Sharing.{Sharing}
 use Rattle.rules.specs.declared.numbers.Refusal.{Refusal}
@@ -28,7 +28,7 @@ trade_answer rule o may m = refl
 pub written_one : (l : Line) (tape : List Line) → 0 < length tape → set tape 0 l ≡ written 0 (l ∷ []) tape
 written_one l tape some = ap (λ x. set x 0 l) (written_none 0 tape) ∙ written_more 0 [] tape (omega arith) l (omega arith)
 
-module _ (c : Entering) (m : Model) (all : All (λ k. k.0 ≡ false) (entry_checks c m)) where
+module _ (c : Entering) (m : Model) (all : AllByRecursion (λ k. k.0 ≡ false) (entry_checks c m)) where
   pub tape_room : longer_side m + 1 ≤ c.tape
   tape_room = ltb-false c.tape (longer_side m + 1) all.0
 
@@ -61,7 +61,7 @@ first_some (c ∷ cs) o why is =
     (λ else. cond-false c.0 (refused c.1) (checked cs o) else ∙ first_some cs o why (sym (cond-false c.0 (Some c.1) (first_refusal cs) else) ∙ is))
     (cases_Bool c.0)
 
-pub first_none : (cs : List Check) → first_refusal cs ≡ None → All (λ c. c.0 ≡ false) cs
+pub first_none : (cs : List Check) → first_refusal cs ≡ None → AllByRecursion (λ c. c.0 ≡ false) cs
 first_none [] is = tt
 first_none (c ∷ cs) is =
     ⊎_elim
@@ -69,7 +69,7 @@ first_none (c ∷ cs) is =
     (λ else. (else, first_none cs (sym (cond-false c.0 (Some c.1) (first_refusal cs) else) ∙ is)))
     (cases_Bool c.0)
 
-pub none_fits : (cs : List Check) (o : Outcome) → All (λ c. c.0 ≡ false) cs → checked cs o ≡ o
+pub none_fits : (cs : List Check) (o : Outcome) → AllByRecursion (λ c. c.0 ≡ false) cs → checked cs o ≡ o
 none_fits [] o all = refl
 none_fits (c ∷ cs) o all = cond-false c.0 (refused c.1) (checked cs o) all.0 ∙ none_fits cs o all.1
 

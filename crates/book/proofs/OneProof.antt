@@ -4,7 +4,7 @@ use mathlib.Core.Logic.{∥∥₁_elim}
 use native.Mathlib.Bridge.{le_prop}
 use base.Stored.{coded_ℕ, coded_bool}
 use denote.Struct.Props.{≡_prop}
-use Rattle.std.specs.List.{AllByRecursion as All}
+use Rattle.std.specs.List.{AllByRecursion}
 use Rattle.rules.specs.declared.terms.Entry.{Entry}
 use Rattle.rules.specs.declared.terms.Routed.{Routed}
 use Rattle.rules.specs.declared.terms.Side.{Side}
@@ -17,7 +17,7 @@ use Rattle.book.specs.declared.state.State.{State}
 test_prop : (b c : Bool) → IsProp (b ≡ c)
 test_prop b c = ≡_prop coded_bool b c
 
-all_prop : {X : Type 0} (P : X → Type 0) → ((x : X) → IsProp (P x)) → (xs : List X) → IsProp (All P xs)
+all_prop : {X : Type 0} (P : X → Type 0) → ((x : X) → IsProp (P x)) → (xs : List X) → IsProp (AllByRecursion P xs)
 all_prop P prop [] p q = refl
 all_prop P prop (x ∷ xs) p q = λ i. (prop x p.0 q.0 i, all_prop P prop xs p.1 q.1 i)
 

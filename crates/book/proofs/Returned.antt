@@ -1,6 +1,6 @@
 -- A return: the search for its row, the rows without it, and what the return comes to. Assumes nothing.
 use Rattle.std.proofs.Common.{◌≡◌, ℕ, zero, suc, ◌+◌, ◌-◌, ◌<◌, ◌≤◌, false, cond, not, eqb, ltb, List, [], ◌∷◌, ◌++◌, length, get_or, take, drop, Some, None, Ok, Option, sym, refl, ap, ◌∙◌, subst, ⊎_elim, arith}
-use Rattle.std.specs.List.{remove, AllByRecursion as All}
+use Rattle.std.specs.List.{remove, AllByRecursion}
 use Rattle.std.proofs.lemmas.List.{at_drop_more, at_drop_all, length-take, length-take-le, get_or-take, get_or_default, length-append, length-drop}
 use Rattle.std.proofs.lemmas.List.Edits.{length-remove}
 use Rattle.std.proofs.lemmas.Bool.{cases_Bool, cond-true, cond-false, not_from_true, not_from_false, eq-eqb, ne_eqb, lt-ltb, le-ltb, ltb-false}
@@ -95,7 +95,7 @@ module _ (n : ℕ) (rows after : List Routed) (k : ℕ) (le : n ≤ length rows)
   rows_left i its once = ap (take (n - 1)) is ∙ front_removed rows n k lt le ∙ removed_row i (take n rows) k no_row (omega (arith, length-take-le n rows le)) its once
 
 -- no check refuses a return
-pub all_pass : (c : Returning) (m : Model) → longer_side m + 1 ≤ c.tape → longer_side m ≤ c.sheet → (r : Routed) → c.series ≡ m.opening.series → c.executed ≤ r.size → All (λ x. x.0 ≡ false) (return_checks c m r)
+pub all_pass : (c : Returning) (m : Model) → longer_side m + 1 ≤ c.tape → longer_side m ≤ c.sheet → (r : Routed) → c.series ≡ m.opening.series → c.executed ≤ r.size → AllByRecursion (λ x. x.0 ≡ false) (return_checks c m r)
 all_pass c m tape sheet r same few = (le-ltb c.tape (longer_side m + 1) tape, (le-ltb c.sheet (longer_side m) sheet, (not_from_true (eqb c.series m.opening.series) (eq-eqb c.series m.opening.series same), (le-ltb r.size c.executed few, tt))))
 
 -- what a return comes to
@@ -141,7 +141,7 @@ module _ (rule : Sharing) (c : Returning) (m : Model) where
             ∙ cond-false (not (eqb c.series m.opening.series)) (refused NotOutHere) _ (not_from_true (eqb c.series m.opening.series) (eq-eqb c.series m.opening.series same))
             ∙ cond-true (ltb r.size c.executed) (refused MoreThanRouted) _ (lt-ltb r.size c.executed more)
 
-  pub comes_back : (r : Routed) → row_with c.id m.out ≡ Some r → All (λ x. x.0 ≡ false) (return_checks c m r) → return_of rule c m ≡ done (trade rule (sized (r.size - c.executed) r) false (with_out (without_row c.id m.out) m))
+  pub comes_back : (r : Routed) → row_with c.id m.out ≡ Some r → AllByRecursion (λ x. x.0 ≡ false) (return_checks c m r) → return_of rule c m ≡ done (trade rule (sized (r.size - c.executed) r) false (with_out (without_row c.id m.out) m))
   unfolding return_of
   comes_back r found all = ap (returned rule c m) found ∙ none_fits (return_checks c m r) (done (trade rule (sized (r.size - c.executed) r) false (with_out (without_row c.id m.out) m))) all
 

@@ -1,6 +1,6 @@
 -- Which row comes back, by its place. Assumes nothing.
 use Rattle.std.specs.Prelude.{◌≡◌, ℕ, ◌<◌, false, List, length, Some, None, Ok, Err, Option, Result, slice_index_or}
-use Rattle.std.specs.List.{AllByRecursion as All}
+use Rattle.std.specs.List.{AllByRecursion}
 use Rattle.sharing.specs.Sharing.{Sharing}
 use Rattle.rules.specs.declared.numbers.Refusal.{Refusal}
 use Rattle.rules.specs.declared.terms.Routed.{Routed}
@@ -17,4 +17,4 @@ FoundRow i rows (Some k) = (k < length rows) × ((d : Routed) → row_with i row
 -- a return's row is at a place, and no check refuses the return; or the return is refused
 abbrev pub Comes : Returning → Model → Result ℕ Refusal → Type 0
 Comes c m (Err why) = (rule : Sharing) → return_of rule c m ≡ refused why
-Comes c m (Ok k) = (k < length m.out) × ((d : Routed) → (row_with c.id m.out ≡ Some (slice_index_or m.out k d)) × All (λ x. x.0 ≡ false) (return_checks c m (slice_index_or m.out k d)))
+Comes c m (Ok k) = (k < length m.out) × ((d : Routed) → (row_with c.id m.out ≡ Some (slice_index_or m.out k d)) × AllByRecursion (λ x. x.0 ≡ false) (return_checks c m (slice_index_or m.out k d)))

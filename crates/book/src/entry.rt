@@ -1,7 +1,7 @@
 // An entry: its checks, its cap, its least size, and then it trades.
 ghost use Rattle.std.specs.Prelude.{◌≡◌, ◌<◌, ◌≤◌, false, length, is_some, is_ok};
 ghost use Rattle.std.specs.Option.{unwrap_or};
-ghost use Rattle.std.specs.List.{AllByRecursion as All};
+ghost use Rattle.std.specs.List.{AllByRecursion};
 ghost use Rattle.matching.specs.Tapes.{written};
 ghost use Rattle.rules.specs.Calls.{reference, entry_checks, setting_out, entry_of};
 ghost use Rattle.rules.specs.Caps.{cap_of};
@@ -69,7 +69,7 @@ fn set_out<R: Rule>(
 ) -> Traded
     requires sound { Sound (model state.old) }
     requires fits { Fits state.old }
-    requires accepted { All (λ k. k.0 ≡ false) (entry_checks (record { order = order.now; tape = length tape.old; sheet = length sheet.old }) (model state.old)) }
+    requires accepted { AllByRecursion (λ k. k.0 ≡ false) (entry_checks (record { order = order.now; tape = length tape.old; sheet = length sheet.old }) (model state.old)) }
     ensures after { model state.new ≡ (carried (R.meaning rule.now) (record { order = order.entry.now; tape = length tape.old; sheet = length sheet.old }) (model state.old)).after }
     ensures tape { tape.new ≡ written 0 (carried (R.meaning rule.now) (record { order = order.entry.now; tape = length tape.old; sheet = length sheet.old }) (model state.old)).lines tape.old }
     ensures lines { result.lines ≡ (carried (R.meaning rule.now) (record { order = order.entry.now; tape = length tape.old; sheet = length sheet.old }) (model state.old)).answer }

@@ -1,6 +1,6 @@
 -- What the records tell once an order has traded and come to its end. Assumes nothing.
 use Rattle.std.proofs.Common.{◌≡◌, ℕ, ◌+◌, false, eqb, List, [], ◌∷◌, ◌++◌, is_some, Some, None, Option, sym, refl, ap, ◌∙◌, subst, arith}
-use Rattle.std.specs.List.{AllByRecursion as All}
+use Rattle.std.specs.List.{AllByRecursion}
 use Rattle.std.proofs.ByRecursion.{All-append}
 use Rattle.std.proofs.lemmas.Bool.{cond-true, cond-false, eq-eqb}
 use Rattle.ranked.specs.Ranked.{ahead}
@@ -46,14 +46,14 @@ abbrev pub comes_sized : (tick : ℕ) (rs : List Told) (n : ℕ) (o : Routed) �
 comes_sized tick rs n o k = record { came = k.came; found = k.found; side = k.side; firm = k.firm; kind = k.kind; market = k.market; mark = k.mark; directed = k.directed; stood = k.stood; listed = k.listed; cap = k.cap }
 
 -- a side with other entries
-pub knows_with : (P : Side → Entry → Type 0) (s : Side) (es : List Entry) (m : Model) → All (P s) es → ((t : Side) → All (P t) (entries t m)) → (t : Side) → All (P t) (entries t (with_entries s es m))
+pub knows_with : (P : Side → Entry → Type 0) (s : Side) (es : List Entry) (m : Model) → AllByRecursion (P s) es → ((t : Side) → AllByRecursion (P t) (entries t m)) → (t : Side) → AllByRecursion (P t) (entries t (with_entries s es m))
 knows_with P Buy es m ps knows Buy = ps
 knows_with P Buy es m ps knows Sell = knows Sell
 knows_with P Sell es m ps knows Buy = knows Buy
 knows_with P Sell es m ps knows Sell = ps
 
 -- the rest line is the end line, if that is one
-rest_end : (ls : List Line) (l : Line) → All Plain ls → rested_in (ls ++ l ∷ []) ≡ rest_or l None
+rest_end : (ls : List Line) (l : Line) → AllByRecursion Plain ls → rested_in (ls ++ l ∷ []) ≡ rest_or l None
 rest_end [] l plain = refl
 rest_end (k ∷ ls) l plain = plain.0.1 (rested_in (ls ++ l ∷ [])) ∙ rest_end ls l plain.1
 
@@ -129,24 +129,24 @@ clock_case o b is_routed m n same = omega arith
 clock_case o b (is_cancelled why) m n same = omega arith
 clock_case o b rests m n same = omega arith
 
-rows_case : (P : Routed → Type 0) (o : Routed) (b : ℕ) (e : Ending) (m : Model) → P (sized b o) → All P m.out → All P (ended o b e m).out
+rows_case : (P : Routed → Type 0) (o : Routed) (b : ℕ) (e : Ending) (m : Model) → P (sized b o) → AllByRecursion P m.out → AllByRecursion P (ended o b e m).out
 rows_case P o b is_filled m p ps = ps
 rows_case P o b is_routed m p ps = All-append P m.out (sized b o ∷ []) ps (p, tt)
 rows_case P o b (is_cancelled why) m p ps = ps
-rows_case P o b rests m p ps = subst (All P) (sym (beside o.side (ranked_in o.side (resting_entry o b (m.counters.last_time + 1)) (entries o.side m)) m).0) ps
+rows_case P o b rests m p ps = subst (AllByRecursion P) (sym (beside o.side (ranked_in o.side (resting_entry o b (m.counters.last_time + 1)) (entries o.side m)) m).0) ps
 
-knows_case : (P : Side → Entry → Type 0) (o : Routed) (b : ℕ) (e : Ending) (m : Model) → (e ≡ rests → P o.side (resting_entry o b (m.counters.last_time + 1))) → ((t : Side) → All (P t) (entries t m)) → (t : Side) → All (P t) (entries t (ended o b e m))
+knows_case : (P : Side → Entry → Type 0) (o : Routed) (b : ℕ) (e : Ending) (m : Model) → (e ≡ rests → P o.side (resting_entry o b (m.counters.last_time + 1))) → ((t : Side) → AllByRecursion (P t) (entries t m)) → (t : Side) → AllByRecursion (P t) (entries t (ended o b e m))
 knows_case P o b is_filled m p knows t = knows t
 knows_case P o b is_routed m p knows Buy = knows Buy
 knows_case P o b is_routed m p knows Sell = knows Sell
 knows_case P o b (is_cancelled why) m p knows t = knows t
 knows_case P o b rests m p knows t =
-    subst (All (P t)) (sym (timed_later (m.counters.last_time + 1) (placed o b m) t).0)
+    subst (AllByRecursion (P t)) (sym (timed_later (m.counters.last_time + 1) (placed o b m) t).0)
     (knows_with P o.side (ranked_in o.side (resting_entry o b (m.counters.last_time + 1)) (entries o.side m)) m
     (all_inserted_into (ahead rank_before (λ _. rank_of) o.side) (P o.side) (resting_entry o b (m.counters.last_time + 1)) (entries o.side m) (p refl) (knows o.side)) knows t)
 
 module _ (tick : ℕ) (r : Told) (rs : List Told) (o : Routed) (b : ℕ) (e : Ending) (ls : List Line) (run : List Entry) (m : Model)
-    (plain : All Plain ls) (less : LeftOf (entries (other_side o.side) m) run) (told : TradeTold r rs o.id (ls ++ end_line o b e ∷ []))
+    (plain : AllByRecursion Plain ls) (less : LeftOf (entries (other_side o.side) m) run) (told : TradeTold r rs o.id (ls ++ end_line o b e ∷ []))
     (comes : Comes tick (r ∷ rs) o) (fresh : standing_with o.id m ≡ 0) where
   abbrev thin : Model
   thin = with_entries (other_side o.side) run m
@@ -164,14 +164,14 @@ module _ (tick : ℕ) (r : Told) (rs : List Told) (o : Routed) (b : ℕ) (e : En
     time = ap (λ x. time_by i x (clock (r ∷ rs)) (working_time i rs)) timed_as ∙ time_else o e i (clock (r ∷ rs)) (working_time i rs) else;
   }
 
-  known_on : (s : Side) (es : List Entry) → count (λ x. eqb x.id o.id) es ≡ 0 → All (Known s rs) es → All (Known s (r ∷ rs)) es
+  known_on : (s : Side) (es : List Entry) → count (λ x. eqb x.id o.id) es ≡ 0 → AllByRecursion (Known s rs) es → AllByRecursion (Known s (r ∷ rs)) es
   known_on s es none known = go es (others_differ (λ x. x.id) o.id es none) known
     where
-      go : (fs : List Entry) → All (λ x. eqb o.id x.id ≡ false) fs → All (Known s rs) fs → All (Known s (r ∷ rs)) fs
+      go : (fs : List Entry) → AllByRecursion (λ x. eqb o.id x.id ≡ false) fs → AllByRecursion (Known s rs) fs → AllByRecursion (Known s (r ∷ rs)) fs
       go [] differ ks = tt
       go (f ∷ fs) differ ks = (known_steady s r rs f (others_steady f.id differ.0) ks.0, go fs differ.1 ks.1)
 
-  pub knows_thin : ((s : Side) → All (Known s rs) (entries s m)) → (s : Side) → All (Known s (r ∷ rs)) (entries s thin)
+  pub knows_thin : ((s : Side) → AllByRecursion (Known s rs) (entries s m)) → (s : Side) → AllByRecursion (Known s (r ∷ rs)) (entries s thin)
   knows_thin knows =
       let contra = other_side o.side in
       knows_with (λ s. Known s (r ∷ rs)) contra run m
@@ -200,16 +200,16 @@ module _ (tick : ℕ) (r : Told) (rs : List Told) (o : Routed) (b : ℕ) (e : En
             ∙ ap (λ x. clock rs + one_if (is_some x)) when ∙ ap (λ n. n + 1) (time ∙ sym (ap (λ x. x.last_time) (beside (other_side o.side) run m).1));
       }
 
-  pub knows_ended : clock rs ≡ m.counters.last_time → ((s : Side) → All (Known s rs) (entries s m)) → (s : Side) → All (Known s (r ∷ rs)) (entries s (ended o b e thin))
+  pub knows_ended : clock rs ≡ m.counters.last_time → ((s : Side) → AllByRecursion (Known s rs) (entries s m)) → (s : Side) → AllByRecursion (Known s (r ∷ rs)) (entries s (ended o b e thin))
   knows_ended time knows s = knows_case (λ t. Known t (r ∷ rs)) o b e thin (known_new time) (knows_thin knows) s
 
-  pub rows_ended : All (Comes tick rs) m.out → All (Comes tick (r ∷ rs)) (ended o b e thin).out
+  pub rows_ended : AllByRecursion (Comes tick rs) m.out → AllByRecursion (Comes tick (r ∷ rs)) (ended o b e thin).out
   rows_ended rows =
       let none : count (λ x. eqb x.id o.id) m.out ≡ 0 = omega arith in
       rows_case (Comes tick (r ∷ rs)) o b e thin (comes_sized tick (r ∷ rs) b o comes)
-      (subst (All (Comes tick (r ∷ rs))) (sym (beside (other_side o.side) run m).0) (go m.out (others_differ (λ (x : Routed). x.id) o.id m.out none) rows))
+      (subst (AllByRecursion (Comes tick (r ∷ rs))) (sym (beside (other_side o.side) run m).0) (go m.out (others_differ (λ (x : Routed). x.id) o.id m.out none) rows))
     where
-      go : (xs : List Routed) → All (λ x. eqb o.id x.id ≡ false) xs → All (Comes tick rs) xs → All (Comes tick (r ∷ rs)) xs
+      go : (xs : List Routed) → AllByRecursion (λ x. eqb o.id x.id ≡ false) xs → AllByRecursion (Comes tick rs) xs → AllByRecursion (Comes tick (r ∷ rs)) xs
       go [] differ ks = tt
       go (x ∷ xs) differ ks = (comes_steady tick r rs x (told.came x.id differ.0) ks.0, go xs differ.1 ks.1)
 

@@ -1,6 +1,6 @@
 -- The runs of a side in rank go from better prices to worse. Assumes nothing.
 use Rattle.std.proofs.Common.{◌≡◌, ℕ, ◌<◌, ◌≤◌, Bool, true, false, ◌&&◌, eqb, List, [], ◌∷◌, ◌++◌, length, Some, None, filter, Option, sym, refl, ◌∙◌, subst, arith, length-append}
-use Rattle.std.specs.List.{AllByRecursion as All}
+use Rattle.std.specs.List.{AllByRecursion}
 use Rattle.std.proofs.ByRecursion.{All-weaker, All-append, all_kept_by, kept_by_passes}
 use Rattle.std.proofs.lemmas.Bool.{cond_both, eqb-true, and_parts}
 use Rattle.std.proofs.lemmas.Bool.Decides.{nat_tests}
@@ -22,7 +22,7 @@ use Rattle.rules.proofs.Runs.{earlier_of}
 abbrev pub BetterFirst : Side → List (List Entry) → Type 0
 BetterFirst s [] = Unit {0}
 BetterFirst s ([] ∷ rs) = ⊥
-BetterFirst s ((e ∷ r) ∷ rs) = All (λ f. f.price ≡ e.price) r × All (λ f. is_better s e.price f.price ≡ true) (flat rs) × BetterFirst s rs
+BetterFirst s ((e ∷ r) ∷ rs) = AllByRecursion (λ f. f.price ≡ e.price) r × AllByRecursion (λ f. is_better s e.price f.price ≡ true) (flat rs) × BetterFirst s rs
 
 better_price : (s : Side) (e f : Entry) → rank_before s (rank_of e) (rank_of f) ≡ true → eqb e.price f.price ≡ false → is_better s e.price f.price ≡ true
 better_price s e f h differ = plain s e.price f.price (class_of e) (class_of f) e.time f.time h differ
@@ -50,11 +50,11 @@ nearer Sell cap None p q h k = grind (arith, nat_tests)
 nearer Buy cap (Some x) p q h k = grind (arith, nat_tests)
 nearer Sell cap (Some x) p q h k = grind (arith, nat_tests)
 
-pub all_split : {X : Type 0} (P : X → Type 0) (xs ys : List X) → All P (xs ++ ys) → All P xs × All P ys
+pub all_split : {X : Type 0} (P : X → Type 0) (xs ys : List X) → AllByRecursion P (xs ++ ys) → AllByRecursion P xs × AllByRecursion P ys
 all_split P [] ys h = (tt, h)
 all_split P (x ∷ xs) ys h = let more = all_split P xs ys h.1 in ((h.0, more.0), more.1)
 
-into_better_first : (s : Side) (e : Entry) (rs : List (List Entry)) → BetterFirst s rs → All (λ f. rank_before s (rank_of e) (rank_of f) ≡ true) (flat rs) → BetterFirst s (into_runs e rs)
+into_better_first : (s : Side) (e : Entry) (rs : List (List Entry)) → BetterFirst s rs → AllByRecursion (λ f. rank_before s (rank_of e) (rank_of f) ≡ true) (flat rs) → BetterFirst s (into_runs e rs)
 into_better_first s e [] st ranked = (tt, tt, tt)
 into_better_first s e ([] ∷ rs) st ranked = absurd st
 into_better_first s e ((f ∷ fs) ∷ rs) st ranked =
@@ -79,7 +79,7 @@ into_better_first s e ((f ∷ fs) ∷ rs) st ranked =
 
 pub runs_better_first : (s : Side) (es : List Entry) → InRank s es → BetterFirst s (runs es)
 runs_better_first s [] ranked = tt
-runs_better_first s (e ∷ es) ranked = into_better_first s e (runs es) (runs_better_first s es ranked.1) (subst (All (λ f. rank_before s (rank_of e) (rank_of f) ≡ true)) (sym (runs_are_whole es)) ranked.0)
+runs_better_first s (e ∷ es) ranked = into_better_first s e (runs es) (runs_better_first s es ranked.1) (subst (AllByRecursion (λ f. rank_before s (rank_of e) (rank_of f) ≡ true)) (sym (runs_are_whole es)) ranked.0)
 
 in_rank_split : (s : Side) (xs ys : List Entry) → InRank s (xs ++ ys) → InRank s xs × InRank s ys
 in_rank_split s [] ys h = (tt, h)
@@ -88,18 +88,18 @@ in_rank_split s (x ∷ xs) ys h =
     (((all_split (λ f. rank_before s (rank_of x) (rank_of f) ≡ true) xs ys h.0).0, more.0), more.1)
 
 -- at one price those in rank are in order of time
-level_by_time : (s : Side) (p : ℕ) (es : List Entry) → InRank s es → All (λ e. e.price ≡ p) es → ByTime es
+level_by_time : (s : Side) (p : ℕ) (es : List Entry) → InRank s es → AllByRecursion (λ e. e.price ≡ p) es → ByTime es
 level_by_time s p [] ranked level = tt
 level_by_time s p (e ∷ es) ranked level = (later es ranked.0 level.1, level_by_time s p es ranked.1 level.1)
   where
-    later : (fs : List Entry) → All (λ f. rank_before s (rank_of e) (rank_of f) ≡ true) fs → All (λ f. f.price ≡ p) fs → All (λ f. class_of e ≡ class_of f → e.time < f.time) fs
+    later : (fs : List Entry) → AllByRecursion (λ f. rank_before s (rank_of e) (rank_of f) ≡ true) fs → AllByRecursion (λ f. f.price ≡ p) fs → AllByRecursion (λ f. class_of e ≡ class_of f → e.time < f.time) fs
     later [] r l = tt
     later (f ∷ fs) r l = (earlier_of s e f r.0 (level.0 ∙ sym l.0), later fs r.1 l.1)
 
 abbrev pub Sized : Entry → Type 0
 Sized e = (1 ≤ e.size) × (e.size ≤ 99999)
 
-pub tradable_runs : (s : Side) (b : ℕ) → b < 100000 → (rs : List (List Entry)) → BetterFirst s rs → InRank s (flat rs) → All Sized (flat rs) → length (flat rs) ≤ 256 → All (Tradable b) rs
+pub tradable_runs : (s : Side) (b : ℕ) → b < 100000 → (rs : List (List Entry)) → BetterFirst s rs → InRank s (flat rs) → AllByRecursion Sized (flat rs) → length (flat rs) ≤ 256 → AllByRecursion (Tradable b) rs
 tradable_runs s b small [] st ranked sized few = tt
 tradable_runs s b small ([] ∷ rs) st ranked sized few = absurd st
 tradable_runs s b small ((e ∷ r) ∷ rs) st ranked sized few =
@@ -119,7 +119,7 @@ kept_tradable q b run ok = record {
 }
 
 -- what stands at a price
-pub at_tradable : (s : Side) (b : ℕ) → b < 100000 → (es : List Entry) → InRank s es → All Sized es → length es ≤ 256 → (p : ℕ) (free : Entry → Bool) → Tradable b (filter (λ e. eqb e.price p && free e) es)
+pub at_tradable : (s : Side) (b : ℕ) → b < 100000 → (es : List Entry) → InRank s es → AllByRecursion Sized es → length es ≤ 256 → (p : ℕ) (free : Entry → Bool) → Tradable b (filter (λ e. eqb e.price p && free e) es)
 at_tradable s b small es ranked sized few p free =
     let q : Entry → Bool = λ e. eqb e.price p && free e in
     record {

@@ -1,6 +1,6 @@
 -- The tape of an order that trades, booked to every account. Assumes nothing.
 use Rattle.std.proofs.Common.{◌≡◌, ℕ, ◌+◌, ◌<◌, ◌≤◌, Bool, true, false, cond, ◌&&◌, ◌||◌, eqb, leb, List, [], ◌∷◌, length, Option, sym, refl, ap, ◌∙◌, subst, ⊎_elim, arith}
-use Rattle.std.specs.List.{AllByRecursion as All}
+use Rattle.std.specs.List.{AllByRecursion}
 use Rattle.std.proofs.lemmas.Bool.{cases_Bool, cond_both, eqb-true}
 use Rattle.ranked.specs.Ranked.{ahead}
 use Rattle.sharing.specs.Sharing.{Sharing, Lawful}
@@ -172,7 +172,7 @@ end_sent o b rests m i = unmoved o.side
 abbrev pub Plain : Line → Type 0
 Plain l = ((i : ℕ) → sent_by i l ≡ 0) × ((r : Option Rested) → rest_or l r ≡ r)
 
-none_sent : (i : ℕ) (ls : List Line) → All Plain ls → total (sent_by i) ls ≡ 0
+none_sent : (i : ℕ) (ls : List Line) → AllByRecursion Plain ls → total (sent_by i) ls ≡ 0
 none_sent i [] plain = refl
 none_sent i (l ∷ ls) plain = omega (arith, plain.0.0 i, none_sent i ls plain.1)
 
@@ -181,7 +181,7 @@ pub record Walked (o : Routed) (es : List Entry) (d : Deal) : Type 0 where
   pub pays : d.balance + total traded_in d.lines ≡ o.size
   pub accounts : (i : ℕ) → holding i d.run + total (taken_from i) d.lines ≡ holding i es
   pub once : (i : ℕ) → count (names i) d.lines ≤ count (λ e. eqb e.id i) es
-  pub plain : All Plain d.lines
+  pub plain : AllByRecursion Plain d.lines
 
 pub traded_walked : (rule : Sharing) → Lawful rule → (o : Routed) (m : Model) → Sound m → o.size < 100000 → Walked o (entries (other_side o.side) m) (traded rule o m)
 unfolding traded

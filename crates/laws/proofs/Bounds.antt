@@ -1,6 +1,6 @@
 -- No entry gives more than it holds, and no line names an entry out of reach. Assumes nothing.
 use Rattle.std.proofs.Common.{◌≡◌, ℕ, ◌+◌, ◌≤◌, Bool, true, false, cond, ◌&&◌, eqb, leb, List, [], ◌∷◌, ◌++◌, Option, sym, refl, ap, ◌∙◌, inl, inr, ⊎_elim, arith}
-use Rattle.std.specs.List.{AllByRecursion as All}
+use Rattle.std.specs.List.{AllByRecursion}
 use Rattle.std.proofs.lemmas.Bool.{cases_Bool, cond_both, eq-eqb, and_parts}
 use Rattle.sharing.specs.Sharing.{Sharing}
 use Rattle.sharing.specs.Totals.{one_if, total, count}
@@ -84,7 +84,7 @@ module _ (rule : Sharing) (o : Routed) (nat away : Option ℕ) (i : ℕ) where
   abbrev reached : Entry → Bool
   reached e = in_reach o.side o.cap away e.price
 
-  all_reached : (p : ℕ) → in_reach o.side o.cap away p ≡ true → (es : List Entry) → All (λ e. e.price ≡ p) es → count (λ e. eqb e.id i) es ≤ count (λ e. reached e && eqb e.id i) es
+  all_reached : (p : ℕ) → in_reach o.side o.cap away p ≡ true → (es : List Entry) → AllByRecursion (λ e. e.price ≡ p) es → count (λ e. eqb e.id i) es ≤ count (λ e. reached e && eqb e.id i) es
   all_reached p able [] h = omega arith
   all_reached p able (e ∷ es) h = omega (arith, ap (λ b. one_if (b && eqb e.id i)) (ap (in_reach o.side o.cap away) h.0 ∙ able), all_reached p able es h.1)
 

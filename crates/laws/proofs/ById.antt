@@ -1,6 +1,6 @@
 -- What stands under an id on a list, and what goes with it. Assumes nothing.
 use Rattle.std.proofs.Common.{◌≡◌, ℕ, ◌+◌, ◌≤◌, Bool, true, false, cond, not, eqb, List, [], ◌∷◌, is_some, Some, filter, sym, refl, ap, ◌∙◌, ⊎_elim, arith}
-use Rattle.std.specs.List.{AllByRecursion as All}
+use Rattle.std.specs.List.{AllByRecursion}
 use Rattle.std.proofs.lemmas.Bool.{false≢true, cases_Bool, eqb-true, eq-eqb, ne_eqb}
 use Rattle.sharing.specs.Totals.{one_if, total, count}
 use Rattle.rules.specs.declared.terms.Entry.{Entry}
@@ -54,7 +54,7 @@ module _ {X : Type 0} (id size : X → ℕ) where
           ] refl
 
 -- those without an id
-pub others_differ : {X : Type 0} (id : X → ℕ) (i : ℕ) (xs : List X) → count (λ x. eqb (id x) i) xs ≡ 0 → All (λ x. eqb i (id x) ≡ false) xs
+pub others_differ : {X : Type 0} (id : X → ℕ) (i : ℕ) (xs : List X) → count (λ x. eqb (id x) i) xs ≡ 0 → AllByRecursion (λ x. eqb i (id x) ≡ false) xs
 others_differ id i [] none = tt
 others_differ id i (x ∷ xs) none = (ne_eqb i (id x) (λ same. let one = ap one_if (eq-eqb (id x) i (sym same)) in absurd (omega arith)), others_differ id i xs (omega arith))
 

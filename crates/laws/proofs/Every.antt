@@ -1,6 +1,6 @@
 -- Every history keeps the laws. Assumes nothing.
 use Rattle.std.proofs.Common.{◌≡◌, ℕ, ◌-◌, ◌<◌, ◌≤◌, Bool, true, false, cond, not, eqb, leb, List, [], ◌∷◌, Some, None, Option, sym, refl, ap, ◌∙◌, subst, arith}
-use Rattle.std.specs.List.{AllByRecursion as All}
+use Rattle.std.specs.List.{AllByRecursion}
 use Rattle.std.proofs.ByRecursion.{All-weaker}
 use Rattle.std.proofs.lemmas.Bool.{false≢true, cond_both, le-leb, lt-leb, ltb-true, ltb-false}
 use Rattle.sharing.specs.Sharing.{Sharing, Lawful}
@@ -236,7 +236,7 @@ tied_opened c accepted = record {
   fresh = λ i above. (refl, refl, refl);
 }
   where
-    none : (s : Side) → All (Known s []) (entries s (opened c))
+    none : (s : Side) → AllByRecursion (Known s []) (entries s (opened c))
     none Buy = tt
     none Sell = tt
 

@@ -1,6 +1,6 @@
 -- At a price to which an order came each fill is fair. Assumes nothing.
 use Rattle.std.proofs.Common.{◌≡◌, ℕ, ◌+◌, ◌-◌, ◌<◌, ◌≤◌, min, Bool, true, false, cond, not, ◌&&◌, ◌||◌, eqb, ltb, leb, ◌⊎◌, List, [], ◌∷◌, ◌++◌, map, filter, Option, sym, refl, ap, ◌∙◌, subst, inl, inr, ⊎_elim, arith}
-use Rattle.std.specs.List.{AllByRecursion as All}
+use Rattle.std.specs.List.{AllByRecursion}
 use Rattle.std.proofs.ByRecursion.{All-weaker, all_kept_by, kept_by_passes}
 use Rattle.std.proofs.lemmas.Bool.{and_parts, and_from, or_cases, or_left, or_right, eqb-true, eq-eqb, leb-true, lt-ltb, ltb-true, cases_Bool, cases_eq, not_from_false}
 use Rattle.sharing.specs.Claims.{Ascending}
@@ -29,7 +29,7 @@ use Rattle.laws.proofs.Turns.{kept_back, all_among, Part, part_front, part_back,
 use Rattle.laws.proofs.Visits.{Visit, kept_at, long_1, long_2, long_3, long_4, long_5, claimed_1, claimed_2, claimed_3, claimed_4, claimed_5}
 
 -- a tape without fills
-pub no_fill : (sc : Scene) (front ls : List Line) → All (Priced (λ q. ⊥)) ls → EachAfter (FairLine sc) front ls
+pub no_fill : (sc : Scene) (front ls : List Line) → AllByRecursion (Priced (λ q. ⊥)) ls → EachAfter (FairLine sc) front ls
 no_fill sc front [] h = tt
 no_fill sc front (Fill id firm size price step ∷ ls) h = absurd h.0
 no_fill sc front (Cancel id firm size cause ∷ ls) h = (tt, no_fill sc (front ++ Cancel id firm size cause ∷ []) ls h.1)
@@ -77,11 +77,11 @@ acting false directed run some = absurd (omega (arith, ap (total size_of) (none_
 
 module _ (sc : Scene) (p b0 : ℕ) (v : Visit sc p b0) (capped : in_cap sc.side sc.cap p ≡ true) (nearest : not_better_away sc.side sc.away p ≡ true)
     (timed : ByTime (free_at sc p)) (first : 1 ≤ b0 → Passed sc p capped nearest v.front 1) where
-  claims_of : (k : Step) (c : ℕ) (q : Entry → Bool) → claimants sc p k ≡ filter q (free_at sc p) → ((e : Entry) → q e ≡ true → class_of e ≡ c) → All (Claims sc p capped nearest k c) (filter q (free_at sc p))
+  claims_of : (k : Step) (c : ℕ) (q : Entry → Bool) → claimants sc p k ≡ filter q (free_at sc p) → ((e : Entry) → q e ≡ true → class_of e ≡ c) → AllByRecursion (Claims sc p capped nearest k c) (filter q (free_at sc p))
   claims_of k c q same one =
       let test : Entry → Bool = λ e. eqb (step_number (step_of sc e)) (step_number k) in
       let stands = all_kept_by q (λ e. Among e sc.standing) (free_at sc p) (all_kept_by (λ e. eqb e.price p && is_free sc e) (λ e. Among e sc.standing) sc.standing (all_among sc.standing)) in
-      let steps = subst (All (λ e. test e ≡ true)) same (kept_by_passes test (free_at sc p)) in
+      let steps = subst (AllByRecursion (λ e. test e ≡ true)) same (kept_by_passes test (free_at sc p)) in
       let passes = kept_by_passes q (free_at sc p) in
       all_both (λ e. Among e sc.standing × (test e ≡ true)) (λ e. (e.price ≡ p) × (q e ≡ true)) (Claims sc p capped nearest k c)
       (λ e h g. record { stands = h.0; stepped = same_step (step_of sc e) k h.1; priced = g.0; classed = one e g.1 })
@@ -90,13 +90,13 @@ module _ (sc : Scene) (p b0 : ℕ) (v : Visit sc p b0) (capped : in_cap sc.side 
       (all_both (λ e. e.price ≡ p) (λ e. q e ≡ true) (λ e. (e.price ≡ p) × (q e ≡ true)) (λ e h g. (h, g)) (filter q (free_at sc p)) (kept_at sc p b0 v q) passes)
 
   -- what holds of the entries at the price that are not barred
-  eligible_at : (P : Entry → Type 0) → All P (free_at sc p) → All (λ e. is_eligible sc e ≡ true → e.price ≡ p → P e) sc.standing
+  eligible_at : (P : Entry → Type 0) → AllByRecursion P (free_at sc p) → AllByRecursion (λ e. is_eligible sc e ≡ true → e.price ≡ p → P e) sc.standing
   eligible_at P h =
       All-weaker (λ e. (eqb e.price p && is_free sc e) ≡ true → P e) (λ e. is_eligible sc e ≡ true → e.price ≡ p → P e)
       (λ e f able same. f (and_from (eqb e.price p) (is_free sc e) (eq-eqb e.price p same) (and_parts (within_reach sc e.price) (is_free sc e) able).1))
       sc.standing (kept_back P (λ e. eqb e.price p && is_free sc e) sc.standing h)
 
-  advance : (xs ys : List Line) → Part xs ys → (c d : ℕ) → d ≡ c + 1 → Passed sc p capped nearest xs c → All (λ e. class_of e ≡ c → NothingLeft ys e) (free_at sc p) → Passed sc p capped nearest ys d
+  advance : (xs ys : List Line) → Part xs ys → (c d : ℕ) → d ≡ c + 1 → Passed sc p capped nearest xs c → AllByRecursion (λ e. class_of e ≡ c → NothingLeft ys e) (free_at sc p) → Passed sc p capped nearest ys d
   advance xs ys part c d next passed gone =
       all_both (λ e. is_eligible sc e ≡ true → before sc p capped nearest c e ≡ true → NothingLeft ys e) (λ e. is_eligible sc e ≡ true → e.price ≡ p → class_of e ≡ c → NothingLeft ys e)
       (λ e. is_eligible sc e ≡ true → before sc p capped nearest d e ≡ true → NothingLeft ys e)
@@ -104,7 +104,7 @@ module _ (sc : Scene) (p b0 : ℕ) (v : Visit sc p b0) (capped : in_cap sc.side 
       ⊎_elim (was able) (λ x. now able (eqb-true e.price p x.0) x.1) (class_more (is_better (other_side sc.side) e.price p) (eqb e.price p) (class_of e) c d next h))
       sc.standing (passed_more sc p capped nearest xs ys part c passed) (eligible_at (λ e. class_of e ≡ c → NothingLeft ys e) gone)
 
-  class_gone : (c : ℕ) (ys : List Line) → All (NothingLeft ys) (filter (in_class c) (free_at sc p)) → All (λ e. class_of e ≡ c → NothingLeft ys e) (free_at sc p)
+  class_gone : (c : ℕ) (ys : List Line) → AllByRecursion (NothingLeft ys) (filter (in_class c) (free_at sc p)) → AllByRecursion (λ e. class_of e ≡ c → NothingLeft ys e) (free_at sc p)
   class_gone c ys h = All-weaker (λ e. in_class c e ≡ true → NothingLeft ys e) (λ e. class_of e ≡ c → NothingLeft ys e) (λ e f same. f (eq-eqb (class_of e) c same)) (free_at sc p) (kept_back (NothingLeft ys) (in_class c) (free_at sc p) h)
 
   to_come : (lines : List Line) (c : ℕ) → ToCome sc p capped nearest lines c (filter (in_class c) (free_at sc p))
@@ -179,7 +179,7 @@ module _ (sc : Scene) (p b0 : ℕ) (v : Visit sc p b0) (capped : in_cap sc.side 
       (class_gone 3 z3 (whole_gone CustomerLimitOrders z3 v.five.n3 c3 (long_3 sc p b0 v) full (inner CustomerLimitOrders (lines_2 v.five v.start) v.five.n3 c3)))
 
   -- where something is left after all steps, the fourth class has nothing left
-  last_gone : 1 ≤ v.five.b5 → All (λ e. class_of e ≡ 4 → NothingLeft z5 e) (free_at sc p)
+  last_gone : 1 ≤ v.five.b5 → AllByRecursion (λ e. class_of e ≡ 4 → NothingLeft z5 e) (free_at sc p)
   last_gone some =
       let a = v.five.a in
       let g : Entry → Bool = in_group sc.directed (free_at sc p) in

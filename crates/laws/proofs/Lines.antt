@@ -1,6 +1,6 @@
 -- What holds of each entry that an order meets holds of each line that its walk writes. Assumes nothing.
 use Rattle.std.proofs.Common.{ℕ, Bool, not, ◌&&◌, ltb, leb, List, [], ◌∷◌, ◌++◌, map, filter, Option}
-use Rattle.std.specs.List.{AllByRecursion as All}
+use Rattle.std.specs.List.{AllByRecursion}
 use Rattle.std.proofs.ByRecursion.{All-append, all_kept_by, All-map}
 use Rattle.std.proofs.lemmas.Bool.{cond_both}
 use Rattle.sharing.specs.Rules.{by_time}
@@ -19,17 +19,17 @@ use Rattle.rules.proofs.Held.{all_left}
 
 module _ (E : Entry → Type 0) (steady : (n : ℕ) (e : Entry) → E e → E (resized n e)) (Q : Line → Type 0)
     (fill : (e : Entry) (n : ℕ) (k : Step) → E e → Q (Fill e.id e.firm n e.price k)) (barred : (e : Entry) → E e → Q (barred_line e)) where
-  fills_all : (k : Step) (ns : List ℕ) (es : List Entry) → All E es → All Q (fills k ns es)
+  fills_all : (k : Step) (ns : List ℕ) (es : List Entry) → AllByRecursion E es → AllByRecursion Q (fills k ns es)
   fills_all k [] es ps = tt
   fills_all k (n ∷ ns) [] ps = tt
   fills_all k (n ∷ ns) (e ∷ es) ps =
-      cond_both (ltb 0 n) (Fill e.id e.firm n e.price k ∷ fills k ns es) (fills k ns es) (All Q)
+      cond_both (ltb 0 n) (Fill e.id e.firm n e.price k ∷ fills k ns es) (fills k ns es) (AllByRecursion Q)
       (λ _. (fill e n k ps.0, fills_all k ns es ps.1))
       (λ _. fills_all k ns es ps.1)
 
   -- of the entries that a deal leaves, and of its lines
   abbrev Both : Deal → Type 0
-  Both d = All E d.run × All Q d.lines
+  Both d = AllByRecursion E d.run × AllByRecursion Q d.lines
 
   step_both : (k : Step) (test : Entry → Bool) (rule : Sharing) (amount : ℕ) (d : Deal) → Both d → Both (step k test rule amount d)
   unfolding step
@@ -46,7 +46,7 @@ module _ (E : Entry → Type 0) (steady : (n : ℕ) (e : Entry) → E e → E (r
       (λ _. step_both OtherInterest (λ e. in_class 4 e && not (group e)) rule fourth.balance fourth (step_both GuaranteedQuotes group rule (for_group directed d) d ps))
       (λ _. step_both OtherInterest (in_class 4) rule d.balance d ps)
 
-  level_both : (rule : Sharing) (o : Routed) (at_best : Bool) (balance : ℕ) (run : List Entry) → All E run → Both (level rule o at_best balance run)
+  level_both : (rule : Sharing) (o : Routed) (at_best : Bool) (balance : ℕ) (run : List Entry) → AllByRecursion E run → Both (level rule o at_best balance run)
   unfolding level unbarred
   level_both rule o at_best balance run ps =
       let out : Entry → Bool = is_barred o.firm o.own_firm_mark in
@@ -58,11 +58,11 @@ module _ (E : Entry → Type 0) (steady : (n : ℕ) (e : Entry) → E e → E (r
       makers_both rule at_best o.directed e3
       (step_both CustomerLimitOrders (in_class 3) by_time e2.balance e2 (step_both OtherMarketOrders (in_class 2) rule e1.balance e1 (step_both CustomerMarketOrders (in_class 1) by_time e0.balance e0 p0)))
     where
-      bars : (es : List Entry) → All E es → All (λ e. Q (barred_line e)) es
+      bars : (es : List Entry) → AllByRecursion E es → AllByRecursion (λ e. Q (barred_line e)) es
       bars [] qs = tt
       bars (e ∷ es) qs = (barred e qs.0, bars es qs.1)
 
-  pub walk_all : (rule : Sharing) (o : Routed) (national away : Option ℕ) (balance : ℕ) (rs : List (List Entry)) → All (All E) rs → All Q (walk rule o national away balance rs).lines
+  pub walk_all : (rule : Sharing) (o : Routed) (national away : Option ℕ) (balance : ℕ) (rs : List (List Entry)) → AllByRecursion (AllByRecursion E) rs → AllByRecursion Q (walk rule o national away balance rs).lines
   unfolding walk
   walk_all rule o national away balance [] ps = tt
   walk_all rule o national away balance (r ∷ rs) ps =
@@ -71,6 +71,6 @@ module _ (E : Entry → Type 0) (steady : (n : ℕ) (e : Entry) → E e → E (r
       cond_both (leb 1 balance && at_price (in_reach o.side o.cap away) r)
       (record { balance = beyond.balance; run = here.run ++ beyond.run; lines = here.lines ++ beyond.lines })
       (record { balance = balance; run = r ++ flat rs; lines = [] })
-      (λ (d : Deal). All Q d.lines)
+      (λ (d : Deal). AllByRecursion Q d.lines)
       (λ _. All-append Q here.lines beyond.lines (level_both rule o (at_price (is_price_of national) r) balance r ps.0).1 (walk_all rule o national away here.balance rs ps.1))
       (λ _. tt)

@@ -1,6 +1,6 @@
 -- Calls that do not trade keep the records tied to the book: refusals, market updates, cancels and size changes. Assumes nothing.
 use Rattle.std.proofs.Common.{◌≡◌, ℕ, ◌+◌, ◌-◌, ◌<◌, ◌≤◌, true, false, cond, not, eqb, ltb, List, [], ◌∷◌, is_some, Some, None, Option, sym, refl, ap, ◌∙◌, subst, ⊎_elim, arith}
-use Rattle.std.specs.List.{AllByRecursion as All}
+use Rattle.std.specs.List.{AllByRecursion}
 use Rattle.std.proofs.ByRecursion.{All-weaker, all_kept_by, All-map}
 use Rattle.std.proofs.lemmas.Bool.{false≢true, cases_Bool, cond_both, cond-true, cond-false, eqb-true, eq-eqb, ne_eqb}
 use Rattle.ranked.specs.Ranked.{ahead}
@@ -40,10 +40,10 @@ use Rattle.laws.proofs.Tied.{Comes, Tied, holds_resting, apart_sides}
 abbrev pub Next : Opening → List Told → Model → Call → Outcome → Type 0
 Next c rs m k out = Tied c (tell k out ∷ rs) (left_by out m)
 
-all_steady : (s : Side) (r : Told) (rs : List Told) (es : List Entry) → ((i : ℕ) → Steady r rs i) → All (Known s rs) es → All (Known s (r ∷ rs)) es
+all_steady : (s : Side) (r : Told) (rs : List Told) (es : List Entry) → ((i : ℕ) → Steady r rs i) → AllByRecursion (Known s rs) es → AllByRecursion (Known s (r ∷ rs)) es
 all_steady s r rs es steady known = All-weaker (Known s rs) (Known s (r ∷ rs)) (λ e k. known_steady s r rs e (steady e.id) k) es known
 
-rows_steady : (tick : ℕ) (r : Told) (rs : List Told) (xs : List Routed) → ((i : ℕ) → arrived i (r ∷ rs) ≡ arrived i rs) → All (Comes tick rs) xs → All (Comes tick (r ∷ rs)) xs
+rows_steady : (tick : ℕ) (r : Told) (rs : List Told) (xs : List Routed) → ((i : ℕ) → arrived i (r ∷ rs) ≡ arrived i rs) → AllByRecursion (Comes tick rs) xs → AllByRecursion (Comes tick (r ∷ rs)) xs
 rows_steady tick r rs xs same rows = All-weaker (Comes tick rs) (Comes tick (r ∷ rs)) (λ x k. comes_steady tick r rs x (same x.id) k) xs rows
 
 pub tied_refused : (c : Opening) (rs : List Told) (m : Model) → Tied c rs m → (k : Call) (why : Refusal) → Next c rs m k (refused why)
@@ -65,7 +65,7 @@ module _ (c : Opening) (rs : List Told) (m : Model) (tied : Tied c rs m) (p : Op
   abbrev update : Side → Told
   update t = carried_out (updates (record { side = t; price = p })) 0 []
 
-  market_known : (t s : Side) → All (Known s (update t ∷ rs)) (entries s m)
+  market_known : (t s : Side) → AllByRecursion (Known s (update t ∷ rs)) (entries s m)
   market_known t s = all_steady s (update t) rs (entries s m) (λ i. record { came = refl; price = refl; time = refl }) (tied.known s)
 
   market_entries : (t s : Side) → entries s m ≡ entries s (with_away t p m)
@@ -81,8 +81,8 @@ module _ (c : Opening) (rs : List Told) (m : Model) (tied : Tied c rs m) (p : Op
   market_away Sell Sell = refl
 
   market_set : (t : Side) → Sound (with_away t p m) → Tied c (update t ∷ rs) (with_away t p m)
-  market_set Buy sound = record { sound = sound; opened = tied.opened; balances = tied.balances; sent = tied.sent; clock = omega (arith, tied.clock); known = λ s. subst (All (Known s (update Buy ∷ rs))) (market_entries Buy s) (market_known Buy s); rows = rows_steady c.tick (update Buy) rs m.out (λ i. refl) tied.rows; away = market_away Buy; fresh = tied.fresh }
-  market_set Sell sound = record { sound = sound; opened = tied.opened; balances = tied.balances; sent = tied.sent; clock = omega (arith, tied.clock); known = λ s. subst (All (Known s (update Sell ∷ rs))) (market_entries Sell s) (market_known Sell s); rows = rows_steady c.tick (update Sell) rs m.out (λ i. refl) tied.rows; away = market_away Sell; fresh = tied.fresh }
+  market_set Buy sound = record { sound = sound; opened = tied.opened; balances = tied.balances; sent = tied.sent; clock = omega (arith, tied.clock); known = λ s. subst (AllByRecursion (Known s (update Buy ∷ rs))) (market_entries Buy s) (market_known Buy s); rows = rows_steady c.tick (update Buy) rs m.out (λ i. refl) tied.rows; away = market_away Buy; fresh = tied.fresh }
+  market_set Sell sound = record { sound = sound; opened = tied.opened; balances = tied.balances; sent = tied.sent; clock = omega (arith, tied.clock); known = λ s. subst (AllByRecursion (Known s (update Sell ∷ rs))) (market_entries Sell s) (market_known Sell s); rows = rows_steady c.tick (update Sell) rs m.out (λ i. refl) tied.rows; away = market_away Sell; fresh = tied.fresh }
 
 pub tied_market : (c : Opening) (rs : List Told) (m : Model) → Tied c rs m → (u : Updating) → Next c rs m (updates u) (market_of u m)
 unfolding market_of
@@ -142,12 +142,12 @@ module _ (c : Opening) (rs : List Told) (m : Model) (tied : Tied c rs m) (u : Ca
         clock = omega (arith, tied.clock, same_time c rs m tied s less);
         known = knows_with (λ t. Known t (r ∷ rs)) s less m
             (all_kept_by (λ x. not (eqb x.id u.id)) (Known s (r ∷ rs)) (entries s m) (known_all s)) known_all;
-        rows = rows_steady c.tick r rs (with_entries s less m).out (λ i. refl) (subst (All (Comes c.tick rs)) (sym (same_out c rs m tied s less)) tied.rows);
+        rows = rows_steady c.tick r rs (with_entries s less m).out (λ i. refl) (subst (AllByRecursion (Comes c.tick rs)) (sym (same_out c rs m tied s less)) tied.rows);
         away = away_still c rs m tied s less;
         fresh = λ i above. tied.fresh i (omega (arith, same_id c rs m tied s less));
       }
     where
-      known_all : (t : Side) → All (Known t (carried_out (cancels u) e.size [] ∷ rs)) (entries t m)
+      known_all : (t : Side) → AllByRecursion (Known t (carried_out (cancels u) e.size [] ∷ rs)) (entries t m)
       known_all t = all_steady t (carried_out (cancels u) e.size []) rs (entries t m) (λ i. record { came = refl; price = refl; time = refl }) (tied.known t)
 
 pub tied_cancel : (c : Opening) (rs : List Told) (m : Model) → Tied c rs m → (u : Cancelling) → Next c rs m (cancels u) (cancel_of u m)
@@ -254,7 +254,7 @@ module _ (c : Opening) (rs : List Told) (m : Model) (tied : Tied c rs m) (u : Re
     abbrev fewer : List Entry
     fewer = reduced_in u.id u.size (entries s m)
 
-    known_reduced : All (Known s (resize_told ∷ rs)) fewer
+    known_reduced : AllByRecursion (Known s (resize_told ∷ rs)) fewer
     known_reduced = All-map (Known s (resize_told ∷ rs)) (λ x. cond (eqb x.id u.id) (resized u.size x) x) (entries s m)
         (All-weaker (Known s (resize_told ∷ rs)) (λ x. Known s (resize_told ∷ rs) (cond (eqb x.id u.id) (resized u.size x) x))
         (λ x k. cond_both (eqb x.id u.id) (resized u.size x) x (Known s (resize_told ∷ rs)) (λ _. known_resized s (resize_told ∷ rs) u.size x k) (λ _. k))
@@ -268,7 +268,7 @@ module _ (c : Opening) (rs : List Told) (m : Model) (tied : Tied c rs m) (u : Re
       sent = sent_still c rs m tied s fewer;
       clock = ap (λ x. clock rs + one_if (is_some x)) untimed ∙ omega (arith, tied.clock, same_time c rs m tied s fewer);
       known = knows_with (λ t. Known t (resize_told ∷ rs)) s fewer m known_reduced (λ t. all_steady t resize_told rs (entries t m) steady_all (tied.known t));
-      rows = rows_steady c.tick resize_told rs (with_entries s fewer m).out (λ i. refl) (subst (All (Comes c.tick rs)) (sym (same_out c rs m tied s fewer)) tied.rows);
+      rows = rows_steady c.tick resize_told rs (with_entries s fewer m).out (λ i. refl) (subst (AllByRecursion (Comes c.tick rs)) (sym (same_out c rs m tied s fewer)) tied.rows);
       away = away_still c rs m tied s fewer;
       fresh = λ i above. resized_fresh i (omega (arith, same_id c rs m tied s fewer));
     }
@@ -296,11 +296,11 @@ module _ (c : Opening) (rs : List Told) (m : Model) (tied : Tied c rs m) (u : Re
     gone : standing_with u.id thin ≡ 0
     gone = omega (arith, counts s rest m u.id, others_none (λ (x : Entry). x.id) u.id (entries s m), there, tied.sound.unique u.id)
 
-    known_thin : (t : Side) → All (Known t (resize_told ∷ rs)) (entries t thin)
+    known_thin : (t : Side) → AllByRecursion (Known t (resize_told ∷ rs)) (entries t thin)
     known_thin t = go (entries t thin) (others_differ (λ (x : Entry). x.id) u.id (entries t thin) (side_fresh t u.id thin gone))
         (knows_with (λ t'. Known t' rs) s rest m (all_kept_by (λ x. not (eqb x.id u.id)) (Known s rs) (entries s m) (tied.known s)) tied.known t)
       where
-        go : (fs : List Entry) → All (λ x. eqb u.id x.id ≡ false) fs → All (Known t rs) fs → All (Known t (resize_told ∷ rs)) fs
+        go : (fs : List Entry) → AllByRecursion (λ x. eqb u.id x.id ≡ false) fs → AllByRecursion (Known t rs) fs → AllByRecursion (Known t (resize_told ∷ rs)) fs
         go [] differ ks = tt
         go (f ∷ fs) differ ks = (known_steady t resize_told rs f (steady_else f.id differ.0) ks.0, go fs differ.1 ks.1)
 
@@ -321,10 +321,10 @@ module _ (c : Opening) (rs : List Told) (m : Model) (tied : Tied c rs m) (u : Re
               ∙ ap (λ x. clock rs + one_if (is_some x)) timed ∙ ap (λ n. n + 1) tied.clock;
         }
 
-    known_more : (t : Side) → All (Known t (resize_told ∷ rs)) (entries t (with_entries s more m))
-    known_more t = subst (λ x. All (Known t (resize_told ∷ rs)) (entries t x)) (with_twice s more rest m)
+    known_more : (t : Side) → AllByRecursion (Known t (resize_told ∷ rs)) (entries t (with_entries s more m))
+    known_more t = subst (λ x. AllByRecursion (Known t (resize_told ∷ rs)) (entries t x)) (with_twice s more rest m)
         (knows_with (λ t'. Known t' (resize_told ∷ rs)) s more thin
-        (all_inserted_into (ahead rank_before (λ _. rank_of) s) (Known s (resize_told ∷ rs)) new_entry rest known_new (subst (All (Known s (resize_told ∷ rs))) (side_with s rest m) (known_thin s))) known_thin t)
+        (all_inserted_into (ahead rank_before (λ _. rank_of) s) (Known s (resize_told ∷ rs)) new_entry rest known_new (subst (AllByRecursion (Known s (resize_told ∷ rs))) (side_with s rest m) (known_thin s))) known_thin t)
 
     moved : (i : ℕ) → resting i (with_entries s more m) + cond (eqb u.id i) e.size 0 ≡ resting i m + cond (eqb u.id i) u.size 0
     moved i =
@@ -344,8 +344,8 @@ module _ (c : Opening) (rs : List Told) (m : Model) (tied : Tied c rs m) (u : Re
       balances = resized_balances (with_last_time (m.counters.last_time + 1) (with_entries s more m)) moved;
       sent = sent_still c rs m tied s more;
       clock = ap (λ x. clock rs + one_if (is_some x)) timed ∙ ap (λ n. n + 1) tied.clock;
-      known = λ t. subst (All (Known t (resize_told ∷ rs))) (sym (timed_later (m.counters.last_time + 1) (with_entries s more m) t).0) (known_more t);
-      rows = rows_steady c.tick resize_told rs (with_entries s more m).out (λ i. refl) (subst (All (Comes c.tick rs)) (sym (same_out c rs m tied s more)) tied.rows);
+      known = λ t. subst (AllByRecursion (Known t (resize_told ∷ rs))) (sym (timed_later (m.counters.last_time + 1) (with_entries s more m) t).0) (known_more t);
+      rows = rows_steady c.tick resize_told rs (with_entries s more m).out (λ i. refl) (subst (AllByRecursion (Comes c.tick rs)) (sym (same_out c rs m tied s more)) tied.rows);
       away = λ t. away_still c rs m tied s more t ∙ sym (timed_later (m.counters.last_time + 1) (with_entries s more m) t).1;
       fresh = λ i above. resized_fresh i (omega (arith, same_id c rs m tied s more));
     }

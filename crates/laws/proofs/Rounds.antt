@@ -1,6 +1,6 @@
 -- One price as five rounds over the entries that stood there. Assumes nothing.
 use Rattle.std.proofs.Common.{◌≡◌, ℕ, ◌+◌, ◌-◌, ◌≤◌, Bool, true, false, cond, ltb, ◌⊎◌, List, [], ◌∷◌, ◌++◌, map, length, Some, None, filter, Option, sym, refl, ap, ◌∙◌, inl, inr, ⊎_elim, arith}
-use Rattle.std.specs.List.{AllByRecursion as All}
+use Rattle.std.specs.List.{AllByRecursion}
 use Rattle.std.proofs.lemmas.Bool.{cond_both, lt-ltb, cases_Bool}
 use Rattle.sharing.specs.Sharing.{Sharing}
 use Rattle.sharing.specs.Totals.{one_if, total, count}
@@ -11,7 +11,7 @@ use Rattle.rules.specs.declared.terms.Entry.{Entry}
 use Rattle.rules.specs.Level.{claim_of, first_or_0, but_first, spread, resized, left_after, fills, Deal, step, quote_of, specialist, in_group}
 use Rattle.rules.proofs.Held.{sized_left}
 
-pub kept_same : {X : Type 0} (p q : X → Bool) (xs : List X) → All (λ x. p x ≡ q x) xs → filter p xs ≡ filter q xs
+pub kept_same : {X : Type 0} (p q : X → Bool) (xs : List X) → AllByRecursion (λ x. p x ≡ q x) xs → filter p xs ≡ filter q xs
 kept_same p q [] same = refl
 kept_same p q (x ∷ xs) same = λ t. cond (same.0 t) (x ∷ kept_same p q xs same.1 t) (kept_same p q xs same.1 t)
 
@@ -33,7 +33,7 @@ abbrev pub Steady : (Entry → Bool) → Type 0
 Steady q = (n : ℕ) (e : Entry) → q (resized n e) ≡ q e
 
 -- entries that are not in a step stay as they are
-kept_left : (test q : Entry → Bool) → Steady q → ((e : Entry) → test e ≡ true → q e ≡ false) → (ns : List ℕ) (es : List Entry) → All (λ e. (1 ≤ e.size) × (e.size ≤ 99999)) es → filter q (left_after (spread test ns es) es) ≡ filter q es
+kept_left : (test q : Entry → Bool) → Steady q → ((e : Entry) → test e ≡ true → q e ≡ false) → (ns : List ℕ) (es : List Entry) → AllByRecursion (λ e. (1 ≤ e.size) × (e.size ≤ 99999)) es → filter q (left_after (spread test ns es) es) ≡ filter q es
 kept_left test q steady apart ns [] sized = refl
 kept_left test q steady apart ns (e ∷ es) sized =
     cond_both (test e) (first_or_0 ns ∷ spread test (but_first ns) es) (0 ∷ spread test ns es) (λ l. filter q (left_after l (e ∷ es)) ≡ filter q (e ∷ es))
@@ -57,7 +57,7 @@ kept_left test q steady apart ns (e ∷ es) sized =
 pub record ComesTo (run : List Entry) (before : Entry → Type 0) (b : ℕ) (lines : List Line) (d : Deal) : Type 0 where
   pub balance : d.balance ≡ b
   pub tape : d.lines ≡ lines
-  pub sized : All (λ e. (1 ≤ e.size) × (e.size ≤ 99999)) d.run
+  pub sized : AllByRecursion (λ e. (1 ≤ e.size) × (e.size ≤ 99999)) d.run
   pub same : (q : Entry → Bool) → Steady q → ((e : Entry) → q e ≡ true → before e → ⊥) → filter q d.run ≡ filter q run
 
 module _ (run : List Entry) (before : Entry → Type 0) (b : ℕ) (lines : List Line) (d : Deal) (at : ComesTo run before b lines d)

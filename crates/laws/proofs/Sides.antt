@@ -1,6 +1,6 @@
 -- What the orders of the two sides traded here adds up to the same. Assumes nothing.
 use Rattle.std.proofs.Common.{◌≡◌, ℕ, ◌+◌, ◌-◌, ◌<◌, Bool, true, false, cond, ◌&&◌, ◌||◌, eqb, List, [], ◌∷◌, Some, None, Option, sym, refl, ap, ◌∙◌, subst, ⊎_elim, arith}
-use Rattle.std.specs.List.{AllByRecursion as All}
+use Rattle.std.specs.List.{AllByRecursion}
 use Rattle.std.proofs.ByRecursion.{All-append}
 use Rattle.std.proofs.lemmas.Bool.{true≢false, cases_Bool, cond_both, cond-true, cond-false, eqb-true, eq-eqb, ne_eqb, ltb-false}
 use Rattle.sharing.specs.Totals.{one_if, total, count}
@@ -126,7 +126,7 @@ module _ (rs : List Told) (own : ℕ) (t : Side) (once : (i : ℕ) (s : Side) �
   line_booked s (Rest id firm size price) named = total_cond_none (λ o. same_side o.side s) (orders rs)
   line_booked s (Route id firm size) named = total_cond_none (λ o. same_side o.side s) (orders rs)
 
-  tape_booked : (s : Side) (ls : List Line) → All (NamesOther rs (other_side t) own) ls → total (λ o. cond (same_side o.side s) (total (traded_by o.id own) ls) 0) (orders rs) ≡ total traded_in ls
+  tape_booked : (s : Side) (ls : List Line) → AllByRecursion (NamesOther rs (other_side t) own) ls → total (λ o. cond (same_side o.side s) (total (traded_by o.id own) ls) 0) (orders rs) ≡ total traded_in ls
   tape_booked s [] named = total_cond_none (λ o. same_side o.side s) (orders rs)
   tape_booked s (l ∷ ls) named =
       total_cond_plus (λ o. same_side o.side s) (λ o. traded_by o.id own l) (λ o. total (traded_by o.id own) ls) (orders rs)
@@ -134,7 +134,7 @@ module _ (rs : List Told) (own : ℕ) (t : Side) (once : (i : ℕ) (s : Side) �
 
 -- the fills of an order that trades name orders of the other side
 module _ (r : Told) (rs : List Told) (o : Routed) (m : Model) (told : (i : ℕ) → eqb o.id i ≡ false → arrived i (r ∷ rs) ≡ arrived i rs)
-    (fresh : standing_with o.id m ≡ 0) (known : All (Known (other_side o.side) rs) (entries (other_side o.side) m)) where
+    (fresh : standing_with o.id m ≡ 0) (known : AllByRecursion (Known (other_side o.side) rs) (entries (other_side o.side) m)) where
   abbrev Another : Entry → Type 0
   Another e = Known (other_side o.side) rs e × (eqb o.id e.id ≡ false)
 
@@ -147,7 +147,7 @@ module _ (r : Told) (rs : List Told) (o : Routed) (m : Model) (told : (i : ℕ) 
   end_names b (is_cancelled why) = tt
   end_names b rests = tt
 
-  trade_names : (rule : Sharing) (may : Bool) → All (NamesOther (r ∷ rs) (other_side o.side) o.id) (trade rule o may m).lines
+  trade_names : (rule : Sharing) (may : Bool) → AllByRecursion (NamesOther (r ∷ rs) (other_side o.side) o.id) (trade rule o may m).lines
   unfolding trade finished traded
   trade_names rule may =
       let contra = other_side o.side in
@@ -198,7 +198,7 @@ module _ (c : Opening) (rs : List Told) (m : Model) (tied : Tied c rs m) (even :
   fresh_here : (i : ℕ) → m.counters.last_id < i → (account i rs).traded_here ≡ 0
   fresh_here i above = let f = tied.fresh i above in omega (arith, tied.balances i, f.1, f.2)
 
-  even_entered : (rule : LawfulRule) (u : Entering) → EntryFits u m → (d : Done) → All (NamesOther (carried_out (enters rule u) d.answer d.lines ∷ rs) (other_side u.order.side) u.order.id) d.lines → Even (carried_out (enters rule u) d.answer d.lines ∷ rs)
+  even_entered : (rule : LawfulRule) (u : Entering) → EntryFits u m → (d : Done) → AllByRecursion (NamesOther (carried_out (enters rule u) d.answer d.lines ∷ rs) (other_side u.order.side) u.order.id) d.lines → Even (carried_out (enters rule u) d.answer d.lines ∷ rs)
   even_entered rule u fits d named = record { once = once_more; sides = on Buy ∙ ap (λ n. n + total traded_in d.lines) even.sides ∙ sym (on Sell) }
     where
       once_more : (i : ℕ) (s : Side) → count (is_order i s) (u.order ∷ orders rs) ≡ came_on s (arrived i (carried_out (enters rule u) d.answer d.lines ∷ rs))
@@ -222,7 +222,7 @@ module _ (c : Opening) (rs : List Told) (m : Model) (tied : Tied c rs m) (even :
           let head = ap (λ n. cond (same_side o.side s) n 0) (fresh_here o.id fits.above) ∙ cond_none (same_side o.side s) in
           split ∙ (λ t. (head t + traded_on s rs) + tape t) ∙ omega arith
 
-  even_returned : (rule : LawfulRule) (u : Returning) (d : Done) (t : Side) → ((s : Side) → came_on s (arrived u.id rs) ≡ one_if (same_side t s)) → All (NamesOther (carried_out (returns rule u) d.answer d.lines ∷ rs) (other_side t) u.id) d.lines → Even (carried_out (returns rule u) d.answer d.lines ∷ rs)
+  even_returned : (rule : LawfulRule) (u : Returning) (d : Done) (t : Side) → ((s : Side) → came_on s (arrived u.id rs) ≡ one_if (same_side t s)) → AllByRecursion (NamesOther (carried_out (returns rule u) d.answer d.lines ∷ rs) (other_side t) u.id) d.lines → Even (carried_out (returns rule u) d.answer d.lines ∷ rs)
   even_returned rule u d t mine named = record { once = even.once; sides = on Buy ∙ ap (λ n. n + total traded_in d.lines) even.sides ∙ sym (on Sell) }
     where
       on : (s : Side) → traded_on s (carried_out (returns rule u) d.answer d.lines ∷ rs) ≡ traded_on s rs + total traded_in d.lines
@@ -261,7 +261,7 @@ module _ (c : Opening) (rs : List Told) (m : Model) (tied : Tied c rs m) (even :
           let enough = ltb-false row.size u.executed all.1.1.1.0 in
           let same = row_id c rs m tied rule u row found enough in
           even_returned rule u d row.side (subst (λ j. (s : Side) → came_on s (arrived j rs) ≡ one_if (same_side row.side s)) same (comes_on c.tick rs row (row_comes c rs m tied rule u row found enough)))
-          (subst (λ j. All (NamesOther (carried_out (returns rule u) d.answer d.lines ∷ rs) (other_side row.side) j) d.lines) same
+          (subst (λ j. AllByRecursion (NamesOther (carried_out (returns rule u) d.answer d.lines ∷ rs) (other_side row.side) j) d.lines) same
           (trade_names (carried_out (returns rule u) d.answer d.lines) rs back given (λ i else. refl) (return_fresh c rs m tied rule u row found enough) (known_given c rs m tied rule u row found enough (other_side row.side)) rule.shares false)))
 
   pub even_next : (k : Call) → Even (tell k (outcome k m) ∷ rs)

@@ -1,6 +1,6 @@
 -- How the fills of a tape are read. Assumes nothing.
 use Rattle.std.proofs.Common.{◌≡◌, ℕ, ◌+◌, ◌≤◌, Bool, true, false, cond, ◌&&◌, ◌||◌, eqb, ltb, List, [], ◌∷◌, ◌++◌, map, length, sym, refl, ap, ◌∙◌, subst, arith}
-use Rattle.std.specs.List.{AllZip, AllByRecursion as All}
+use Rattle.std.specs.List.{AllZip, AllByRecursion}
 use Rattle.std.proofs.ByRecursion.{All-weaker}
 use Rattle.std.proofs.lemmas.List.{append-nil, append_assoc}
 use Rattle.std.proofs.lemmas.Bool.{cond_both, cond-true, ltb-false, eq-eqb}
@@ -36,22 +36,22 @@ priced_weaker P Q f (Filled id firm) h = tt
 priced_weaker P Q f (Rest id firm size price) h = tt
 priced_weaker P Q f (Route id firm size) h = tt
 
-pub all_priced : (P Q : ℕ → Type 0) → ((p : ℕ) → P p → Q p) → (ls : List Line) → All (Priced P) ls → All (Priced Q) ls
+pub all_priced : (P Q : ℕ → Type 0) → ((p : ℕ) → P p → Q p) → (ls : List Line) → AllByRecursion (Priced P) ls → AllByRecursion (Priced Q) ls
 all_priced P Q f ls h = All-weaker (Priced P) (Priced Q) (priced_weaker P Q f) ls h
 
-pub priced_fills : (Q : ℕ → Type 0) (k : Step) (ns : List ℕ) (cs : List Entry) → All (λ e. Q e.price) cs → All (Priced Q) (fills k ns cs)
+pub priced_fills : (Q : ℕ → Type 0) (k : Step) (ns : List ℕ) (cs : List Entry) → AllByRecursion (λ e. Q e.price) cs → AllByRecursion (Priced Q) (fills k ns cs)
 priced_fills Q k [] cs h = tt
 priced_fills Q k (n ∷ ns) [] h = tt
 priced_fills Q k (n ∷ ns) (e ∷ cs) h =
-    cond_both (ltb 0 n) (Fill e.id e.firm n e.price k ∷ fills k ns cs) (fills k ns cs) (All (Priced Q))
+    cond_both (ltb 0 n) (Fill e.id e.firm n e.price k ∷ fills k ns cs) (fills k ns cs) (AllByRecursion (Priced Q))
     (λ _. (h.0, priced_fills Q k ns cs h.1)) (λ _. priced_fills Q k ns cs h.1)
 
-pub priced_barred : (Q : ℕ → Type 0) (cs : List Entry) → All (Priced Q) (map barred_line cs)
+pub priced_barred : (Q : ℕ → Type 0) (cs : List Entry) → AllByRecursion (Priced Q) (map barred_line cs)
 priced_barred Q [] = tt
 priced_barred Q (e ∷ cs) = (tt, priced_barred Q cs)
 
 -- the fills of a round, where a test tells whether they count
-pub read_fills : (g : Line → ℕ) (b : Bool) (k : Step) (ns : List ℕ) (cs : List Entry) → length ns ≡ length cs → All (λ e. (n : ℕ) → g (Fill e.id e.firm n e.price k) ≡ cond b n 0) cs → total g (fills k ns cs) ≡ cond b (total (λ n. n) ns) 0
+pub read_fills : (g : Line → ℕ) (b : Bool) (k : Step) (ns : List ℕ) (cs : List Entry) → length ns ≡ length cs → AllByRecursion (λ e. (n : ℕ) → g (Fill e.id e.firm n e.price k) ≡ cond b n 0) cs → total g (fills k ns cs) ≡ cond b (total (λ n. n) ns) 0
 read_fills g b k [] cs long h = sym (cond_none b)
 read_fills g b k (n ∷ ns) [] long h = absurd (omega arith)
 read_fills g b k (n ∷ ns) (e ∷ cs) long h =
@@ -77,7 +77,7 @@ worse_test Sell q p false h = grind (arith, nat_tests)
 
 module _ (sc : Scene) (p k : ℕ) where
   -- fills at a better price are all earlier
-  pub better_earlier : (ls : List Line) → All (Priced (λ q. is_better (other_side sc.side) q p ≡ true)) ls → total (earlier sc p k) ls ≡ total traded_in ls
+  pub better_earlier : (ls : List Line) → AllByRecursion (Priced (λ q. is_better (other_side sc.side) q p ≡ true)) ls → total (earlier sc p k) ls ≡ total traded_in ls
   better_earlier [] h = refl
   better_earlier (l ∷ ls) h = λ t. one l h.0 t + better_earlier ls h.1 t
     where
@@ -89,7 +89,7 @@ module _ (sc : Scene) (p k : ℕ) where
       one (Route id firm size) b = refl
 
   -- and those at a worse price are not
-  pub worse_later : (ls : List Line) → All (Priced (λ q. is_better (other_side sc.side) p q ≡ true)) ls → total (earlier sc p k) ls ≡ 0
+  pub worse_later : (ls : List Line) → AllByRecursion (Priced (λ q. is_better (other_side sc.side) p q ≡ true)) ls → total (earlier sc p k) ls ≡ 0
   worse_later [] h = refl
   worse_later (l ∷ ls) h = (λ t. one l h.0 t + worse_later ls h.1 t)
     where
@@ -100,7 +100,7 @@ module _ (sc : Scene) (p k : ℕ) where
       one (Rest id firm size price) b = refl
       one (Route id firm size) b = refl
 
-  pub earlier_fills : (j : Step) (ns : List ℕ) (cs : List Entry) → length ns ≡ length cs → All (λ e. e.price ≡ p) cs → total (earlier sc p k) (fills j ns cs) ≡ cond (ltb (step_number j) k) (total (λ n. n) ns) 0
+  pub earlier_fills : (j : Step) (ns : List ℕ) (cs : List Entry) → length ns ≡ length cs → AllByRecursion (λ e. e.price ≡ p) cs → total (earlier sc p k) (fills j ns cs) ≡ cond (ltb (step_number j) k) (total (λ n. n) ns) 0
   earlier_fills j ns cs long level =
       read_fills (earlier sc p k) (ltb (step_number j) k) j ns cs long
       (All-weaker (λ e. e.price ≡ p) (λ e. (n : ℕ) → earlier sc p k (Fill e.id e.firm n e.price j) ≡ cond (ltb (step_number j) k) n 0)
@@ -109,7 +109,7 @@ module _ (sc : Scene) (p k : ℕ) where
 pub traded_fills : (j : Step) (ns : List ℕ) (cs : List Entry) → length ns ≡ length cs → total traded_in (fills j ns cs) ≡ total (λ n. n) ns
 traded_fills j ns cs long = read_fills traded_in true j ns cs long (each cs)
   where
-    each : (cs : List Entry) → All (λ e. (n : ℕ) → n ≡ n) cs
+    each : (cs : List Entry) → AllByRecursion (λ e. (n : ℕ) → n ≡ n) cs
     each [] = tt
     each (e ∷ cs) = (λ n. refl, each cs)
 
@@ -132,12 +132,12 @@ each_gets k tape (n ∷ ns) (e ∷ cs) long part = (
       (λ _ h. omega arith) (λ _ h. h) (part i)),
 )
 
-pub each_to_all : (f g : Entry → ℕ) (cs : List Entry) → AllZip ◌≤◌ (map f cs) (map g cs) → All (λ e. f e ≤ g e) cs
+pub each_to_all : (f g : Entry → ℕ) (cs : List Entry) → AllZip ◌≤◌ (map f cs) (map g cs) → AllByRecursion (λ e. f e ≤ g e) cs
 each_to_all f g [] le = tt
 each_to_all f g (e ∷ cs) le = (le.0, each_to_all f g cs le.1)
 
 -- a round that gives each entry its whole size leaves nothing of it
-pub whole_gone : (k : Step) (tape : List Line) (ns : List ℕ) (cs : List Entry) → length ns ≡ length cs → ns ≡ map size_of cs → ((i : ℕ) → total (got i) (fills k ns cs) ≤ total (got i) tape) → All (NothingLeft tape) cs
+pub whole_gone : (k : Step) (tape : List Line) (ns : List ℕ) (cs : List Entry) → length ns ≡ length cs → ns ≡ map size_of cs → ((i : ℕ) → total (got i) (fills k ns cs) ≤ total (got i) tape) → AllByRecursion (NothingLeft tape) cs
 whole_gone k tape ns cs long full part = each_to_all size_of (λ e. total (got e.id) tape) cs (subst (λ ms. AllZip ◌≤◌ ms (map (λ e. total (got e.id) tape) cs)) full (each_gets k tape ns cs long part))
 
 -- each line of two tapes, one after the other

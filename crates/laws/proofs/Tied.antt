@@ -1,6 +1,6 @@
 -- What ties the records to the book, and what follows of the entries that stand. Assumes nothing.
 use Rattle.std.proofs.Common.{◌≡◌, ℕ, ◌+◌, ◌<◌, ◌≤◌, true, false, cond, eqb, ◌⊎◌, List, [], ◌∷◌, Some, None, unwrap_or, sym, refl, ap, ◌∙◌, subst, inl, inr, ⊎_elim, arith}
-use Rattle.std.specs.List.{AllByRecursion as All}
+use Rattle.std.specs.List.{AllByRecursion}
 use Rattle.std.proofs.ByRecursion.{All-weaker}
 use Rattle.std.proofs.lemmas.Bool.{cases_Bool, cases_lt, eqb-true, eq-eqb, ne_eqb}
 use Rattle.std.proofs.lemmas.Bool.Decides.{nat_tests}
@@ -52,8 +52,8 @@ pub record Tied (c : Opening) (rs : List Told) (m : Model) : Type 0 where
   pub balances : (i : ℕ) → let a = account i rs in a.entered + a.added ≡ ((((a.traded_here + a.traded_away) + a.cancelled) + a.taken_off) + resting i m) + a.out
   pub sent : (i : ℕ) → (account i rs).out ≡ out_with i m.out
   pub clock : clock rs ≡ m.counters.last_time
-  pub known : (s : Side) → All (Known s rs) (entries s m)
-  pub rows : All (Comes c.tick rs) m.out
+  pub known : (s : Side) → AllByRecursion (Known s rs) (entries s m)
+  pub rows : AllByRecursion (Comes c.tick rs) m.out
   pub away : (s : Side) → away_price s rs ≡ away s m
   -- of an id above all that were accepted nothing is told
   pub fresh : (i : ℕ) → m.counters.last_id < i → (arrived i rs ≡ None) × ((account i rs).entered ≡ 0) × ((account i rs).added ≡ 0)
@@ -63,7 +63,7 @@ pub holds_resting : (c : Opening) (rs : List Told) (m : Model) → Tied c rs m �
 holds_resting c rs m tied i = omega (arith, tied.balances i)
 
 -- an entry holds its own size where no other has its id
-pub held_alone : (es : List Entry) → ((i : ℕ) → count (λ e. eqb e.id i) es ≤ 1) → All (λ e. holding e.id es ≡ e.size) es
+pub held_alone : (es : List Entry) → ((i : ℕ) → count (λ e. eqb e.id i) es ≤ 1) → AllByRecursion (λ e. holding e.id es ≡ e.size) es
 held_alone [] once = tt
 held_alone (e ∷ es) once =
     let mine = eq-eqb e.id e.id refl in
@@ -72,7 +72,7 @@ held_alone (e ∷ es) once =
       rest es others (held_alone es (λ i. omega (arith, once i))),
     )
   where
-    rest : (fs : List Entry) → count (λ f. eqb f.id e.id) fs ≡ 0 → All (λ f. holding f.id es ≡ f.size) fs → All (λ f. holding f.id (e ∷ es) ≡ f.size) fs
+    rest : (fs : List Entry) → count (λ f. eqb f.id e.id) fs ≡ 0 → AllByRecursion (λ f. holding f.id es ≡ f.size) fs → AllByRecursion (λ f. holding f.id (e ∷ es) ≡ f.size) fs
     rest [] none held = tt
     rest (f ∷ fs) none held =
         let differ : eqb e.id f.id ≡ false = ne_eqb e.id f.id (λ same. let one = ap one_if (eq-eqb f.id e.id (sym same)) in absurd (omega arith)) in
@@ -83,7 +83,7 @@ pub apart_sides : (s : Side) (m : Model) → Sound m → (i : ℕ) → 1 ≤ cou
 apart_sides Buy m sound i one = omega (arith, none_held i m.offers (omega (arith, sound.unique i)))
 apart_sides Sell m sound i one = omega (arith, none_held i m.bids (omega (arith, sound.unique i)))
 
-counted_there : (es : List Entry) → All (λ e. 1 ≤ count (λ f. eqb f.id e.id) es) es
+counted_there : (es : List Entry) → AllByRecursion (λ e. 1 ≤ count (λ f. eqb f.id e.id) es) es
 counted_there [] = tt
 counted_there (e ∷ es) =
     let one = ap one_if (eq-eqb e.id e.id refl) in
@@ -94,7 +94,7 @@ held_counted : (i : ℕ) (es : List Entry) → 1 ≤ holding i es → 1 ≤ coun
 held_counted i es some = ⊎_elim (λ more. omega arith) (λ none. absurd (omega (arith, none_held i es (omega arith)))) (cases_lt 0 (count (λ e. eqb e.id i) es))
 
 -- the entry with an id that is on a list
-pub picked : {X : Type 0} (Q : Entry → Type 0) (i : ℕ) (es : List Entry) → 1 ≤ count (λ e. eqb e.id i) es → All Q es → ((e : Entry) → e.id ≡ i → Q e → X) → X
+pub picked : {X : Type 0} (Q : Entry → Type 0) (i : ℕ) (es : List Entry) → 1 ≤ count (λ e. eqb e.id i) es → AllByRecursion Q es → ((e : Entry) → e.id ≡ i → Q e → X) → X
 picked Q i [] one qs use_it = absurd (omega arith)
 picked Q i (e ∷ es) one qs use_it =
     ⊎_elim
@@ -106,7 +106,7 @@ pub some_same : {X : Type 0} {x y : X} → Some x ≡ Some y → x ≡ y
 some_same {x = x} same = ap (λ o. unwrap_or o x) same
 
 -- an entry of a side is of an order of that side
-side_known : (t : Side) (rs : List Told) (i : ℕ) (a : Arrived) → arrived i rs ≡ Some a → (es : List Entry) → All (Known t rs) es → 1 ≤ count (λ e. eqb e.id i) es → a.order.side ≡ t
+side_known : (t : Side) (rs : List Told) (i : ℕ) (a : Arrived) → arrived i rs ≡ Some a → (es : List Entry) → AllByRecursion (Known t rs) es → 1 ≤ count (λ e. eqb e.id i) es → a.order.side ≡ t
 side_known t rs i a found es known there = picked (Known t rs) i es there known (λ e same k. ap (λ (x : Arrived). x.order.side) (some_same (sym found ∙ ap (λ j. arrived j rs) (sym same) ∙ k.found)) ∙ k.side)
 
 side_split : (i : ℕ) (m : Model) → 1 ≤ resting i m → (1 ≤ holding i m.bids) ⊎ (1 ≤ holding i m.offers)
@@ -170,7 +170,7 @@ strictly : (s : Side) (es : List Entry) → InRank s es → Strict (ahead rank_b
 strictly s [] ranked = tt
 strictly s (e ∷ es) ranked = (ranked.0, strictly s es ranked.1)
 
-included : (s : Side) (rs : List Told) (es : List Entry) → Standing s rs es → (gs : List Entry) → All (Stands s rs) gs → (P : Entry → Type 0) → All P es → All P gs
+included : (s : Side) (rs : List Told) (es : List Entry) → Standing s rs es → (gs : List Entry) → AllByRecursion (Stands s rs) gs → (P : Entry → Type 0) → AllByRecursion P es → AllByRecursion P gs
 included s rs es x [] stand P ps = tt
 included s rs es x (g ∷ gs) stand P ps =
     let k = stand.0.known in

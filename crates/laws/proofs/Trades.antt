@@ -1,6 +1,6 @@
 -- What an order does on the other side keeps priority and price, and the makers' guarantee and floors. Assumes nothing.
 use Rattle.std.proofs.Common.{◌≡◌, ℕ, ◌+◌, ◌<◌, ◌≤◌, true, false, ◌&&◌, eqb, List, [], ◌∷◌, ◌++◌, length, Option, sym, refl, ap, subst, ⊎_elim, arith}
-use Rattle.std.specs.List.{AllByRecursion as All}
+use Rattle.std.specs.List.{AllByRecursion}
 use Rattle.std.proofs.ByRecursion.{All-weaker}
 use Rattle.std.proofs.lemmas.Bool.{both_ways, and_parts, and_cases}
 use Rattle.sharing.specs.Sharing.{Sharing, Lawful}
@@ -45,7 +45,7 @@ tape_for rule o away es balance end = (walk rule o (national (other_side o.side)
 -- the other side as it stands
 pub record ReadySide (s : Side) (es : List Entry) : Type 0 where
   pub ranked : InRank s es
-  pub sized : All (λ e. (1 ≤ e.size) × (e.size ≤ 99999)) es
+  pub sized : AllByRecursion (λ e. (1 ≤ e.size) × (e.size ≤ 99999)) es
   pub few : length es ≤ 256
   pub unique : (i : ℕ) → count (λ e. eqb e.id i) es ≤ 1
 
@@ -54,10 +54,10 @@ module _ (rule : Sharing) (lawful : Lawful rule) (o : Routed) (least : ℕ) (awa
   in_order : BetterFirst (other_side o.side) (runs es)
   in_order = runs_better_first (other_side o.side) es ready.ranked
 
-  tradable : All (Tradable o.size) (runs es)
+  tradable : AllByRecursion (Tradable o.size) (runs es)
   tradable =
       let is = sym (runs_are_whole es) in
-      tradable_runs (other_side o.side) o.size small (runs es) in_order (subst (InRank (other_side o.side)) is ready.ranked) (subst (All (λ e. (1 ≤ e.size) × (e.size ≤ 99999))) is ready.sized) (subst (λ l. length l ≤ 256) is ready.few)
+      tradable_runs (other_side o.side) o.size small (runs es) in_order (subst (InRank (other_side o.side)) is ready.ranked) (subst (AllByRecursion (λ e. (1 ≤ e.size) × (e.size ≤ 99999))) is ready.sized) (subst (λ l. length l ≤ 256) is ready.few)
 
   -- the lines of the prices
   abbrev lines : List Line
@@ -91,7 +91,7 @@ module _ (rule : Sharing) (lawful : Lawful rule) (o : Routed) (least : ℕ) (awa
   trade_makers balance end available =
       let sc = scene_for rule o least away es (tape_for rule o away es balance end) in
       record {
-        served = subst (All (λ e. may_come sc e.price ≡ true → Served sc e.price)) (runs_are_whole es)
+        served = subst (AllByRecursion (λ e. may_come sc e.price ≡ true → Served sc e.price)) (runs_are_whole es)
             (All-weaker (λ e. within_reach sc e.price ≡ true → Served sc e.price) (λ e. may_come sc e.price ≡ true → Served sc e.price) (λ e h able. h (and_parts (within_reach sc e.price) (least_available sc) able).0) (flat (runs es)) (goes balance end).served);
         within = All-weaker (λ e. Among e es) (λ e. total (got e.id) (tape_for rule o away es balance end) ≤ e.size) (held balance end) es (all_among es);
         apart = all_both (λ e. Among e es) (λ e. eqb o.id e.id ≡ false) (λ e. may_come sc e.price ≡ false → count (names e.id) (tape_for rule o away es balance end) ≡ 0)

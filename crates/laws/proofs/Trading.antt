@@ -1,6 +1,6 @@
 -- Entries and returns keep the records tied to the book. Assumes nothing.
 use Rattle.std.proofs.Common.{◌≡◌, ℕ, ◌+◌, ◌-◌, ◌<◌, ◌≤◌, Bool, true, false, cond, not, eqb, List, [], ◌∷◌, ◌++◌, Some, None, Option, unwrap_or, sym, refl, ap, ◌∙◌, subst, ⊎_elim, arith}
-use Rattle.std.specs.List.{AllByRecursion as All}
+use Rattle.std.specs.List.{AllByRecursion}
 use Rattle.std.proofs.ByRecursion.{all_kept_by}
 use Rattle.std.proofs.lemmas.Bool.{false≢true, cases_Bool, cond_both, cond-true, cond-false, eqb-true, eq-eqb, ne_eqb, ltb-false}
 use Rattle.sharing.specs.Sharing.{Sharing, Lawful}
@@ -46,8 +46,8 @@ pub record After (c : Opening) (r : Told) (rs : List Told) (m : Model) (after : 
   pub opened : after.opening ≡ m.opening
   pub last_id : after.counters.last_id ≡ m.counters.last_id
   pub clock : clock (r ∷ rs) ≡ after.counters.last_time
-  pub known : (s : Side) → All (Known s (r ∷ rs)) (entries s after)
-  pub rows : All (Comes c.tick (r ∷ rs)) after.out
+  pub known : (s : Side) → AllByRecursion (Known s (r ∷ rs)) (entries s after)
+  pub rows : AllByRecursion (Comes c.tick (r ∷ rs)) after.out
   pub away : (s : Side) → away_price s (r ∷ rs) ≡ away s after
 
 same_entries : (s : Side) (m : Model) → with_entries s (entries s m) m ≡ m
@@ -55,8 +55,8 @@ same_entries Buy m = refl
 same_entries Sell m = refl
 
 module _ (c : Opening) (r : Told) (rs : List Told) (o : Routed) (m : Model) (comes : Comes c.tick (r ∷ rs) o) (fresh : standing_with o.id m ≡ 0)
-    (time : clock rs ≡ m.counters.last_time) (known : (s : Side) → All (Known s rs) (entries s m)) (rows : All (Comes c.tick rs) m.out) (aways : (s : Side) → away_price s rs ≡ away s m) where
-  ended_after : (b : ℕ) (e : Ending) (ls : List Line) (run : List Entry) → All Plain ls → LeftOf (entries (other_side o.side) m) run → TradeTold r rs o.id (ls ++ end_line o b e ∷ []) → After c r rs m (ended o b e (with_entries (other_side o.side) run m))
+    (time : clock rs ≡ m.counters.last_time) (known : (s : Side) → AllByRecursion (Known s rs) (entries s m)) (rows : AllByRecursion (Comes c.tick rs) m.out) (aways : (s : Side) → away_price s rs ≡ away s m) where
+  ended_after : (b : ℕ) (e : Ending) (ls : List Line) (run : List Entry) → AllByRecursion Plain ls → LeftOf (entries (other_side o.side) m) run → TradeTold r rs o.id (ls ++ end_line o b e ∷ []) → After c r rs m (ended o b e (with_entries (other_side o.side) run m))
   ended_after b e ls run plain less told =
       let contra = other_side o.side in
       let thin = with_entries contra run m in
@@ -124,7 +124,7 @@ module _ (c : Opening) (rs : List Told) (m : Model) (tied : Tied c rs m) (rule :
   pub entry_fresh : standing_with o.id counted ≡ 0
   entry_fresh = stands_nowhere o.id m tied.sound fits.above
 
-  pub known_counted : (s : Side) → All (Known s rs) (entries s counted)
+  pub known_counted : (s : Side) → AllByRecursion (Known s rs) (entries s counted)
   known_counted Buy = tied.known Buy
   known_counted Sell = tied.known Sell
 
@@ -225,7 +225,7 @@ module _ (c : Opening) (rs : List Told) (m : Model) (tied : Tied c rs m) (rule :
   pub routed_size : (account u.id rs).out ≡ row.size
   routed_size = tied.sent u.id ∙ found_having (λ (x : Routed). x.id) (λ x. x.size) u.id m.out row found (omega (arith, tied.sound.unique u.id))
 
-  pub known_given : (s : Side) → All (Known s rs) (entries s given)
+  pub known_given : (s : Side) → AllByRecursion (Known s rs) (entries s given)
   known_given Buy = tied.known Buy
   known_given Sell = tied.known Sell
 

@@ -1,6 +1,6 @@
 -- Fills in a round are fair where those ahead have nothing left. Assumes nothing.
 use Rattle.std.proofs.Common.{◌≡◌, ℕ, ◌-◌, ◌<◌, ◌≤◌, min, Bool, true, false, cond, ◌&&◌, ◌||◌, eqb, ltb, ◌⊎◌, List, [], ◌∷◌, ◌++◌, map, filter, sym, refl, ap, ◌∙◌, subst, inl, inr, ⊎_elim, arith}
-use Rattle.std.specs.List.{AllByRecursion as All}
+use Rattle.std.specs.List.{AllByRecursion}
 use Rattle.std.proofs.ByRecursion.{All-weaker}
 use Rattle.std.proofs.lemmas.Bool.{false≢true, and_parts, and_from, or_cases, cond_both, cond-true, eqb-true, eq-eqb, ltb-true, ltb-false}
 use Rattle.sharing.specs.Claims.{Ascending}
@@ -22,19 +22,19 @@ use Rattle.laws.specs.Scenes.{Scene, is_eligible, step_of}
 use Rattle.laws.proofs.Lists.{all_both}
 
 -- what holds of those kept holds of each that passes
-pub kept_back : {X : Type 0} (P : X → Type 0) (test : X → Bool) (xs : List X) → All P (filter test xs) → All (λ x. test x ≡ true → P x) xs
+pub kept_back : {X : Type 0} (P : X → Type 0) (test : X → Bool) (xs : List X) → AllByRecursion P (filter test xs) → AllByRecursion (λ x. test x ≡ true → P x) xs
 kept_back P test [] ps = tt
 kept_back P test (x ∷ xs) ps =
-    elim (test x) as (λ b. All P (cond b (x ∷ filter test xs) (filter test xs)) → (b ≡ true → P x) × All (λ y. test y ≡ true → P y) xs) [
+    elim (test x) as (λ b. AllByRecursion P (cond b (x ∷ filter test xs) (filter test xs)) → (b ≡ true → P x) × AllByRecursion (λ y. test y ≡ true → P y) xs) [
       | true ↦ λ h. (λ _. h.0, kept_back P test xs h.1)
       | false ↦ λ h. (λ never. absurd (false≢true never), kept_back P test xs h)
     ] ps
 
-pub all_among : (es : List Entry) → All (λ e. Among e es) es
+pub all_among : (es : List Entry) → AllByRecursion (λ e. Among e es) es
 all_among [] = tt
 all_among (e ∷ es) = (inl refl, All-weaker (λ f. Among f es) (λ f. Among f (e ∷ es)) (λ f h. inr h) es (all_among es))
 
-pub among_all : (P : Entry → Type 0) (e : Entry) (es : List Entry) → All P es → Among e es → P e
+pub among_all : (P : Entry → Type 0) (e : Entry) (es : List Entry) → AllByRecursion P es → Among e es → P e
 among_all P e [] ps h = absurd h
 among_all P e (f ∷ fs) ps (inl same) = subst P (sym same) ps.0
 among_all P e (f ∷ fs) ps (inr h) = among_all P e fs ps.1 h
@@ -99,7 +99,7 @@ module _ (sc : Scene) where
   Fair lines k f = FairFill sc lines f.id f.firm 0 f.price k
 
   -- a shared round
-  pub shared_fair : (k : Step) (front : List Line) (ns : List ℕ) (cs : List Entry) → (1 ≤ total (λ n. n) ns → All (Fair front k) cs) → EachAfter (FairLine sc) front (fills k ns cs)
+  pub shared_fair : (k : Step) (front : List Line) (ns : List ℕ) (cs : List Entry) → (1 ≤ total (λ n. n) ns → AllByRecursion (Fair front k) cs) → EachAfter (FairLine sc) front (fills k ns cs)
   shared_fair k front [] cs h = tt
   shared_fair k front (n ∷ ns) [] h = tt
   shared_fair k front (n ∷ ns) (f ∷ cs) h =
@@ -118,7 +118,7 @@ module _ (sc : Scene) where
     before c e = is_better (other_side sc.side) e.price p || (eqb e.price p && ltb (class_of e) c)
 
     abbrev pub Passed : List Line → ℕ → Type 0
-    Passed lines c = All (λ e. is_eligible sc e ≡ true → before c e ≡ true → NothingLeft lines e) sc.standing
+    Passed lines c = AllByRecursion (λ e. is_eligible sc e ≡ true → before c e ≡ true → NothingLeft lines e) sc.standing
 
     pub passed_more : (xs ys : List Line) → Part xs ys → (c : ℕ) → Passed xs c → Passed ys c
     passed_more xs ys part c h = All-weaker (λ e. is_eligible sc e ≡ true → before c e ≡ true → NothingLeft xs e) (λ e. is_eligible sc e ≡ true → before c e ≡ true → NothingLeft ys e) (λ e f able b. left_more xs ys part e (f able b)) sc.standing h
@@ -130,7 +130,7 @@ module _ (sc : Scene) where
       pub priced : f.price ≡ p
       pub classed : class_of f ≡ c
 
-    fair_from : (lines : List Line) (k : Step) (c : ℕ) (f : Entry) → Claims k c f → Passed lines c → (All (λ e. is_eligible sc e ≡ true → e.price ≡ p → class_of e ≡ c → goes_by_time c ≡ true → e.time < f.time → NothingLeft lines e) sc.standing) → Fair lines k f
+    fair_from : (lines : List Line) (k : Step) (c : ℕ) (f : Entry) → Claims k c f → Passed lines c → (AllByRecursion (λ e. is_eligible sc e ≡ true → e.price ≡ p → class_of e ≡ c → goes_by_time c ≡ true → e.time < f.time → NothingLeft lines e) sc.standing) → Fair lines k f
     fair_from lines k c f at passed in_class = record {
       entry = f;
       stands = at.stands;
@@ -151,21 +151,21 @@ module _ (sc : Scene) where
           sc.standing passed in_class;
     }
 
-    pub round_fair : (k : Step) (c : ℕ) → goes_by_time c ≡ false → (front : List Line) (ns : List ℕ) (cs : List Entry) → All (Claims k c) cs → (1 ≤ total (λ n. n) ns → Passed front c) → EachAfter (FairLine sc) front (fills k ns cs)
+    pub round_fair : (k : Step) (c : ℕ) → goes_by_time c ≡ false → (front : List Line) (ns : List ℕ) (cs : List Entry) → AllByRecursion (Claims k c) cs → (1 ≤ total (λ n. n) ns → Passed front c) → EachAfter (FairLine sc) front (fills k ns cs)
     round_fair k c shares front ns cs claims passed =
         shared_fair k front ns cs (λ some. All-weaker (Claims k c) (Fair front k) (λ f at. fair_from front k c f at (passed some)
         (none sc.standing f)) cs claims)
       where
-        none : (es : List Entry) (f : Entry) → All (λ e. is_eligible sc e ≡ true → e.price ≡ p → class_of e ≡ c → goes_by_time c ≡ true → e.time < f.time → NothingLeft front e) es
+        none : (es : List Entry) (f : Entry) → AllByRecursion (λ e. is_eligible sc e ≡ true → e.price ≡ p → class_of e ≡ c → goes_by_time c ≡ true → e.time < f.time → NothingLeft front e) es
         none [] f = tt
         none (e ∷ es) f = (λ able same class goes lt. absurd (false≢true (sym shares ∙ goes)), none es f)
 
     -- the entries of a class that have something left are still to come
     abbrev pub ToCome : List Line → ℕ → List Entry → Type 0
-    ToCome lines c cs = All (λ e. is_eligible sc e ≡ true → e.price ≡ p → class_of e ≡ c → NothingLeft lines e ⊎ Among e cs) sc.standing
+    ToCome lines c cs = AllByRecursion (λ e. is_eligible sc e ≡ true → e.price ≡ p → class_of e ≡ c → NothingLeft lines e ⊎ Among e cs) sc.standing
 
     -- a round by time
-    pub turn_fair : (k : Step) (c : ℕ) (amount : ℕ) (front : List Line) (cs : List Entry) → Ascending (map claim_of cs) → All (Claims k c) cs → (1 ≤ amount → Passed front c) → (1 ≤ amount → ToCome front c cs) → EachAfter (FairLine sc) front (fills k (in_turn amount (map claim_of cs)) cs)
+    pub turn_fair : (k : Step) (c : ℕ) (amount : ℕ) (front : List Line) (cs : List Entry) → Ascending (map claim_of cs) → AllByRecursion (Claims k c) cs → (1 ≤ amount → Passed front c) → (1 ≤ amount → ToCome front c cs) → EachAfter (FairLine sc) front (fills k (in_turn amount (map claim_of cs)) cs)
     turn_fair k c amount front [] up claims passed come = tt
     turn_fair k c amount front (f ∷ cs) up claims passed come =
         let n = min f.size amount in
@@ -186,7 +186,7 @@ module _ (sc : Scene) where
         let nothing = ltb-false 0 n none in
         turn_fair k c (amount - f.size) front cs up.1 claims.1 (λ more. passed (omega arith)) (λ more. still front (λ i. omega arith) (omega arith) (come (omega arith))))
       where
-        later : (f : Entry) (cs : List Entry) → All (λ d. f.time < d.time) (map claim_of cs) → (e : Entry) → Among e (f ∷ cs) → e.time < f.time → ⊥
+        later : (f : Entry) (cs : List Entry) → AllByRecursion (λ d. f.time < d.time) (map claim_of cs) → (e : Entry) → Among e (f ∷ cs) → e.time < f.time → ⊥
         later f cs up e (inl same) lt = omega (arith, ap (λ (x : Entry). x.time) same)
         later f [] up e (inr among) lt = absurd among
         later f (g ∷ cs) up e (inr (inl same)) lt = omega (arith, ap (λ (x : Entry). x.time) same, up.0)

@@ -1,6 +1,6 @@
 -- A price to which an order came, read from the tape of its call. Assumes nothing.
 use Rattle.std.proofs.Common.{◌≡◌, ℕ, ◌+◌, ◌-◌, ◌*◌, ◌/◌, ◌≤◌, min, max, Bool, true, false, cond, not, ◌&&◌, eqb, ltb, leb, List, ◌++◌, map, length, filter, sym, refl, ap, ◌∙◌, subst, arith}
-use Rattle.std.specs.List.{AllZip, AllByRecursion as All}
+use Rattle.std.specs.List.{AllZip, AllByRecursion}
 use Rattle.std.proofs.ByRecursion.{All-weaker, all_kept_by, kept_by_passes}
 use Rattle.std.proofs.lemmas.Bool.{false≢true, and_parts, eqb-true}
 use Rattle.sharing.specs.Rules.{by_time}
@@ -36,9 +36,9 @@ pub record Visit (sc : Scene) (p b0 : ℕ) : Type 0 where
   pub back : List Line
   pub tape : sc.tape ≡ (front ++ lines_5 five start) ++ back
   pub brings : total traded_in front + b0 ≡ sc.brings
-  pub better : All (Priced (λ q. is_better (other_side sc.side) q p ≡ true)) front
-  pub none : All (Priced (λ q. ⊥)) start
-  pub worse : All (Priced (λ q. is_better (other_side sc.side) p q ≡ true)) back
+  pub better : AllByRecursion (Priced (λ q. is_better (other_side sc.side) q p ≡ true)) front
+  pub none : AllByRecursion (Priced (λ q. ⊥)) start
+  pub worse : AllByRecursion (Priced (λ q. is_better (other_side sc.side) p q ≡ true)) back
 
 -- the step of an entry by whether it is a Market Order, a customer's and guaranteed
 abbrev pub step_by : Bool → Bool → Bool → Step
@@ -97,7 +97,7 @@ guarantee_met : (t g x e n : ℕ) → n ≡ min (min t (max g x)) e → e ≡ t 
 guarantee_met t g x e n h same = omega arith
 
 module _ (sc : Scene) (p b0 : ℕ) (v : Visit sc p b0) where
-  pub at_p : All (λ e. e.price ≡ p) (free_at sc p)
+  pub at_p : AllByRecursion (λ e. e.price ≡ p) (free_at sc p)
   at_p = All-weaker (λ e. (eqb e.price p && is_free sc e) ≡ true) (λ e. e.price ≡ p) (λ e h. eqb-true e.price p (and_parts (eqb e.price p) (is_free sc e) h).0) (free_at sc p) (kept_by_passes (λ e. eqb e.price p && is_free sc e) sc.standing)
 
   abbrev f1 : List Line
@@ -144,7 +144,7 @@ module _ (sc : Scene) (p b0 : ℕ) (v : Visit sc p b0) where
   abbrev sum : List ℕ → ℕ
   sum ns = total (λ n. n) ns
 
-  pub kept_at : (q : Entry → Bool) → All (λ e. e.price ≡ p) (filter q (free_at sc p))
+  pub kept_at : (q : Entry → Bool) → AllByRecursion (λ e. e.price ≡ p) (filter q (free_at sc p))
   kept_at q = all_kept_by q (λ e. e.price ≡ p) (free_at sc p) at_p
 
   -- the earlier fills, round by round

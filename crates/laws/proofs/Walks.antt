@@ -1,6 +1,6 @@
 -- From price to price: each fill is fair, and each price to which the order may come is served. Assumes nothing.
 use Rattle.std.proofs.Common.{◌≡◌, ℕ, ◌+◌, ◌-◌, ◌<◌, ◌≤◌, Bool, true, false, cond, not, ◌&&◌, eqb, ltb, leb, List, [], ◌∷◌, ◌++◌, map, length, filter, Option, sym, refl, ap, ◌∙◌, subst, ⊎_elim, arith}
-use Rattle.std.specs.List.{AllByRecursion as All}
+use Rattle.std.specs.List.{AllByRecursion}
 use Rattle.std.proofs.lemmas.List.Elements.{filter-append}
 use Rattle.std.proofs.ByRecursion.{All-weaker, All-append, all_kept_by}
 use Rattle.std.proofs.lemmas.List.{append-nil, append_assoc}
@@ -48,29 +48,29 @@ module _ (rule : Sharing) (lawful : Lawful rule) (o : Routed) where
       subst (LevelAs rule o at_best b0 all) same (record { five = told.five; balance = told.balance; lines = told.lines })
 
   -- the prices of the fills at a price
-  level_priced : (Q : ℕ → Type 0) (at_best : Bool) (b0 : ℕ) (all : List Entry) → Tradable b0 all → All (λ e. Q e.price) all → All (Priced Q) (level rule o at_best b0 all).lines
+  level_priced : (Q : ℕ → Type 0) (at_best : Bool) (b0 : ℕ) (all : List Entry) → Tradable b0 all → AllByRecursion (λ e. Q e.price) all → AllByRecursion (Priced Q) (level rule o at_best b0 all).lines
   level_priced Q at_best b0 all ok h =
       let run = filter (λ e. not (is_barred o.firm o.own_firm_mark e)) all in
       let told = level_as at_best b0 all run ok refl in
       let f = told.five in
       let start = map barred_line (filter (is_barred o.firm o.own_firm_mark) all) in
       let free = all_kept_by (λ e. not (is_barred o.firm o.own_firm_mark e)) (λ e. Q e.price) all h in
-      let kept : (q : Entry → Bool) → All (λ e. Q e.price) (filter q run) = λ q. all_kept_by q (λ e. Q e.price) run free in
+      let kept : (q : Entry → Bool) → AllByRecursion (λ e. Q e.price) (filter q run) = λ q. all_kept_by q (λ e. Q e.price) run free in
       let y0 = priced_barred Q (filter (is_barred o.firm o.own_firm_mark) all) in
       let y1 = All-append (Priced Q) start (fills CustomerMarketOrders f.n1 (filter (in_class 1) run)) y0 (priced_fills Q CustomerMarketOrders f.n1 (filter (in_class 1) run) (kept (in_class 1))) in
       let y2 = All-append (Priced Q) (lines_1 f start) (fills OtherMarketOrders f.n2 (filter (in_class 2) run)) y1 (priced_fills Q OtherMarketOrders f.n2 (filter (in_class 2) run) (kept (in_class 2))) in
       let y3 = All-append (Priced Q) (lines_2 f start) (fills CustomerLimitOrders f.n3 (filter (in_class 3) run)) y2 (priced_fills Q CustomerLimitOrders f.n3 (filter (in_class 3) run) (kept (in_class 3))) in
       let y4 = All-append (Priced Q) (lines_3 f start) (fills GuaranteedQuotes f.n4 (fourth f.a o.directed run)) y3 (priced_fills Q GuaranteedQuotes f.n4 (fourth f.a o.directed run) (kept (λ e. f.a && in_group o.directed run e))) in
       let y5 = All-append (Priced Q) (lines_4 f start) (fills OtherInterest f.n5 (fifth f.a o.directed run)) y4 (priced_fills Q OtherInterest f.n5 (fifth f.a o.directed run) (kept (λ e. in_class 4 e && not (f.a && in_group o.directed run e)))) in
-      subst (All (Priced Q)) (sym told.lines) y5
+      subst (AllByRecursion (Priced Q)) (sym told.lines) y5
 
   smaller : (a b : ℕ) → a ≤ b → (run : List Entry) → Tradable b run → Tradable a run
   smaller a b le run ok = record { few = ok.few; small = omega (arith, ok.small); sized = ok.sized; timed = ok.timed }
 
-  pub all_smaller : (a b : ℕ) → a ≤ b → (rs : List (List Entry)) → All (Tradable b) rs → All (Tradable a) rs
+  pub all_smaller : (a b : ℕ) → a ≤ b → (rs : List (List Entry)) → AllByRecursion (Tradable b) rs → AllByRecursion (Tradable a) rs
   all_smaller a b le rs ok = All-weaker (Tradable b) (Tradable a) (smaller a b le) rs ok
 
-  walk_priced : (Q : ℕ → Type 0) (nat away : Option ℕ) (b : ℕ) (rs : List (List Entry)) → All (Tradable b) rs → All (λ e. Q e.price) (flat rs) → All (Priced Q) (walk rule o nat away b rs).lines
+  walk_priced : (Q : ℕ → Type 0) (nat away : Option ℕ) (b : ℕ) (rs : List (List Entry)) → AllByRecursion (Tradable b) rs → AllByRecursion (λ e. Q e.price) (flat rs) → AllByRecursion (Priced Q) (walk rule o nat away b rs).lines
   unfolding walk
   walk_priced Q nat away b [] ok h = tt
   walk_priced Q nat away b (r ∷ rs) ok h =
@@ -81,15 +81,15 @@ module _ (rule : Sharing) (lawful : Lawful rule) (o : Routed) where
       cond_both {A = Deal} (leb 1 b && at_price (in_reach o.side o.cap away) r)
       (record { balance = beyond.balance; run = here.run ++ beyond.run; lines = here.lines ++ beyond.lines })
       (record { balance = b; run = r ++ flat rs; lines = [] })
-      (λ d. All (Priced Q) d.lines)
+      (λ d. AllByRecursion (Priced Q) d.lines)
       (λ _. All-append (Priced Q) here.lines beyond.lines (level_priced Q (at_price (is_price_of nat) r) b r ok.0 parts.0) (walk_priced Q nat away here.balance rs (all_smaller here.balance b (omega (arith, pays)) rs ok.1) parts.1))
       (λ _. tt)
 
 -- what holds of a price holds of each entry at it
-all_at : (Q : ℕ → Type 0) (p : ℕ) → Q p → (es : List Entry) → All (λ e. e.price ≡ p) es → All (λ e. Q e.price) es
+all_at : (Q : ℕ → Type 0) (p : ℕ) → Q p → (es : List Entry) → AllByRecursion (λ e. e.price ≡ p) es → AllByRecursion (λ e. Q e.price) es
 all_at Q p h es level = All-weaker (λ e. e.price ≡ p) (λ e. Q e.price) (λ e same. subst Q (sym same) h) es level
 
-none_pass : (q : Entry → Bool) (es : List Entry) → All (λ e. q e ≡ false) es → filter q es ≡ []
+none_pass : (q : Entry → Bool) (es : List Entry) → AllByRecursion (λ e. q e ≡ false) es → filter q es ≡ []
 none_pass q [] h = refl
 none_pass q (e ∷ es) h = (λ t. cond (h.0 t) (e ∷ filter q es) (filter q es)) ∙ none_pass q es h.1
 
@@ -106,7 +106,7 @@ class_above false true = refl
 class_above false false = refl
 
 module _ (rule : Sharing) (lawful : Lawful rule) (o : Routed) (least : ℕ) (away : Option ℕ) (es : List Entry) (tape : List Line)
-    (small : o.size < 100000) (ranked : InRank (other_side o.side) es) (sized : All Sized es) (few : length es ≤ 256) where
+    (small : o.size < 100000) (ranked : InRank (other_side o.side) es) (sized : AllByRecursion Sized es) (few : length es ≤ 256) where
   abbrev sc : Scene
   sc = record { side = o.side; firm = o.firm; mark = o.own_firm_mark; directed = o.directed; cap = o.cap; brings = o.size; least = least; away = away; standing = es; rule = rule; tape = tape }
 
@@ -120,7 +120,7 @@ module _ (rule : Sharing) (lawful : Lawful rule) (o : Routed) (least : ℕ) (awa
   free e = not (is_barred o.firm o.own_firm_mark e)
 
   -- the entries at a price are those of its run
-  same_run : (done run rest : List Entry) (p : ℕ) → es ≡ done ++ (run ++ rest) → All (λ e. better e.price p ≡ true) done → All (λ e. e.price ≡ p) run → All (λ e. better p e.price ≡ true) rest → filter free run ≡ free_at sc p
+  same_run : (done run rest : List Entry) (p : ℕ) → es ≡ done ++ (run ++ rest) → AllByRecursion (λ e. better e.price p ≡ true) done → AllByRecursion (λ e. e.price ≡ p) run → AllByRecursion (λ e. better p e.price ≡ true) rest → filter free run ≡ free_at sc p
   same_run done run rest p is first level beyond =
       let q : Entry → Bool = λ e. eqb e.price p && free e in
       let none = none_pass q done (All-weaker (λ e. better e.price p ≡ true) (λ e. q e ≡ false) (λ e h. and_left (eqb e.price p) (free e) (better_differ (other_side o.side) e.price p h)) done first) in
@@ -131,22 +131,22 @@ module _ (rule : Sharing) (lawful : Lawful rule) (o : Routed) (least : ℕ) (awa
   -- an order comes to a price
   record Coming (balance : ℕ) (done run rest : List Entry) (p : ℕ) (front after : List Line) : Type 0 where
     pub whole : es ≡ done ++ (run ++ rest)
-    pub first : All (λ e. better e.price p ≡ true) done
-    pub priced : All (λ e. e.price ≡ p) run
-    pub beyond : All (λ e. better p e.price ≡ true) rest
+    pub first : AllByRecursion (λ e. better e.price p ≡ true) done
+    pub priced : AllByRecursion (λ e. e.price ≡ p) run
+    pub beyond : AllByRecursion (λ e. better p e.price ≡ true) rest
     pub ok : Tradable balance run
     pub reach : in_reach o.side o.cap away p ≡ true
     pub brings : total traded_in front + balance ≡ o.size
     pub is : tape ≡ (front ++ (level rule o (is_price_of nat p) balance run).lines) ++ after
-    pub nearer_fills : All (Priced (λ q. better q p ≡ true)) front
-    pub farther_fills : All (Priced (λ q. better p q ≡ true)) after
-    pub gone : 1 ≤ balance → All (λ e. is_eligible sc e ≡ true → NothingLeft front e) done
+    pub nearer_fills : AllByRecursion (Priced (λ q. better q p ≡ true)) front
+    pub farther_fills : AllByRecursion (Priced (λ q. better p q ≡ true)) after
+    pub gone : 1 ≤ balance → AllByRecursion (λ e. is_eligible sc e ≡ true → NothingLeft front e) done
 
   -- what it did there
   record Did (balance : ℕ) (run : List Entry) (p : ℕ) (front : List Line) : Type 0 where
     pub served : Served sc p
     pub fair : EachAfter (FairLine sc) front (level rule o (is_price_of nat p) balance run).lines
-    pub left : 1 ≤ (level rule o (is_price_of nat p) balance run).balance → All (λ e. is_eligible sc e ≡ true → NothingLeft (front ++ (level rule o (is_price_of nat p) balance run).lines) e) run
+    pub left : 1 ≤ (level rule o (is_price_of nat p) balance run).balance → AllByRecursion (λ e. is_eligible sc e ≡ true → NothingLeft (front ++ (level rule o (is_price_of nat p) balance run).lines) e) run
 
   come : (balance : ℕ) (done run rest : List Entry) (p : ℕ) (front after : List Line) → Coming balance done run rest p front after → Did balance run p front
   come balance done run rest p front after c =
@@ -167,7 +167,7 @@ module _ (rule : Sharing) (lawful : Lawful rule) (o : Routed) (least : ℕ) (awa
       let parts = and_parts (in_cap o.side o.cap p) (not_better_away o.side away p) c.reach in
       let ok = at_tradable s balance c.ok.small es ranked sized few p free in
       let ahead : 1 ≤ balance → Passed sc p parts.0 parts.1 front 1 = λ some.
-      subst (All (λ e. is_eligible sc e ≡ true → before sc p parts.0 parts.1 1 e ≡ true → NothingLeft front e)) (sym c.whole)
+      subst (AllByRecursion (λ e. is_eligible sc e ≡ true → before sc p parts.0 parts.1 1 e ≡ true → NothingLeft front e)) (sym c.whole)
       (All-append (λ e. is_eligible sc e ≡ true → before sc p parts.0 parts.1 1 e ≡ true → NothingLeft front e) done (run ++ rest)
       (All-weaker (λ e. is_eligible sc e ≡ true → NothingLeft front e) (λ e. is_eligible sc e ≡ true → before sc p parts.0 parts.1 1 e ≡ true → NothingLeft front e) (λ e h able b. h able) done (c.gone some))
       (All-append (λ e. is_eligible sc e ≡ true → before sc p parts.0 parts.1 1 e ≡ true → NothingLeft front e) run rest
@@ -180,40 +180,40 @@ module _ (rule : Sharing) (lawful : Lawful rule) (o : Routed) (least : ℕ) (awa
             let passed = visit_passed sc p balance v parts.0 parts.1 ok.timed ahead (subst (λ n. 1 ≤ n) told.balance some) in
             let lines = lines_5 told.five start in
             let P : Entry → Type 0 = λ e. is_eligible sc e ≡ true → before sc p parts.0 parts.1 5 e ≡ true → NothingLeft (front ++ lines) e in
-            let here : All P run = (all_split P run rest (all_split P done (run ++ rest) (subst (All P) c.whole passed)).1).0 in
-            subst (λ l. All (λ e. is_eligible sc e ≡ true → NothingLeft (front ++ l) e) run) (sym told.lines)
+            let here : AllByRecursion P run = (all_split P run rest (all_split P done (run ++ rest) (subst (AllByRecursion P) c.whole passed)).1).0 in
+            subst (λ l. AllByRecursion (λ e. is_eligible sc e ≡ true → NothingLeft (front ++ l) e) run) (sym told.lines)
             (all_both P (λ e. e.price ≡ p) (λ e. is_eligible sc e ≡ true → NothingLeft (front ++ lines) e) (λ e h same able. h able (level_test s e.price p (ltb (class_of e) 5) same ∙ class_below e.market (is_customer e.kind))) run here c.priced);
       }
 
   -- each price at which an order has nothing left to bring is served
-  idle_all : (front back : List Line) → tape ≡ (front ++ []) ++ back → total traded_in front ≡ o.size → All (Priced (λ q. ⊥)) back → (fs : List Entry) → All (Priced (λ q. All (λ f. better q f.price ≡ true) fs)) front → All (λ e. within_reach sc e.price ≡ true → Served sc e.price) fs
+  idle_all : (front back : List Line) → tape ≡ (front ++ []) ++ back → total traded_in front ≡ o.size → AllByRecursion (Priced (λ q. ⊥)) back → (fs : List Entry) → AllByRecursion (Priced (λ q. AllByRecursion (λ f. better q f.price ≡ true) fs)) front → AllByRecursion (λ e. within_reach sc e.price ≡ true → Served sc e.price) fs
   idle_all front back is spent none [] h = tt
   idle_all front back is spent none (f ∷ fs) h =
       let q = f.price in (
         λ _. idle_served sc lawful q (at_tradable (other_side o.side) 0 (omega arith) es ranked sized few q free)
             (λ k.
-            let e1 = better_earlier sc q k front (all_priced (λ p. All (λ g. better p g.price ≡ true) (f ∷ fs)) (λ p. better p q ≡ true) (λ p x. x.0) front h) in
+            let e1 = better_earlier sc q k front (all_priced (λ p. AllByRecursion (λ g. better p g.price ≡ true) (f ∷ fs)) (λ p. better p q ≡ true) (λ p x. x.0) front h) in
             let e2 = worse_later sc q k back (all_priced (λ p. ⊥) (λ p. better q p ≡ true) (λ p x. absurd x) back none) in
             let all : total (earlier sc q k) tape ≡ o.size = ap (total (earlier sc q k)) (is ∙ ap (λ l. l ++ back) (append-nil front)) ∙ total_append (earlier sc q k) front back ∙ (λ t. e1 t + e2 t) ∙ omega (arith, spent) in
             ap (λ n. o.size - n) all ∙ omega arith),
-        idle_all front back is spent none fs (all_priced (λ p. All (λ g. better p g.price ≡ true) (f ∷ fs)) (λ p. All (λ g. better p g.price ≡ true) fs) (λ p x. x.1) front h),
+        idle_all front back is spent none fs (all_priced (λ p. AllByRecursion (λ g. better p g.price ≡ true) (f ∷ fs)) (λ p. AllByRecursion (λ g. better p g.price ≡ true) fs) (λ p x. x.1) front h),
       )
 
   pub record Goes (front lines : List Line) (left : List Entry) : Type 0 where
     pub fair : EachAfter (FairLine sc) front lines
-    pub served : All (λ e. within_reach sc e.price ≡ true → Served sc e.price) left
+    pub served : AllByRecursion (λ e. within_reach sc e.price ≡ true → Served sc e.price) left
 
   -- no price behind one out of reach is within reach
   out_of_reach : (p : ℕ) → in_reach o.side o.cap away p ≡ false → (e : Entry) → better p e.price ≡ true → within_reach sc e.price ≡ true → Served sc e.price
   out_of_reach p out e h able = absurd (both_ways (in_reach o.side o.cap away p) out (nearer o.side o.cap away p e.price h able))
 
-  all_served : (p : ℕ) → Served sc p → (run : List Entry) → All (λ e. e.price ≡ p) run → All (λ e. within_reach sc e.price ≡ true → Served sc e.price) run
+  all_served : (p : ℕ) → Served sc p → (run : List Entry) → AllByRecursion (λ e. e.price ≡ p) run → AllByRecursion (λ e. within_reach sc e.price ≡ true → Served sc e.price) run
   all_served p served run level = all_at (λ q. within_reach sc q ≡ true → Served sc q) p (λ _. served) run level
 
   -- the order goes on from entries at better prices
-  pub walk_goes : (rs : List (List Entry)) (balance : ℕ) (done : List Entry) (front back : List Line) → BetterFirst (other_side o.side) rs → All (Tradable balance) rs → es ≡ done ++ flat rs → All (λ e. All (λ f. better e.price f.price ≡ true) (flat rs)) done →
-      tape ≡ (front ++ (walk rule o nat away balance rs).lines) ++ back → total traded_in front + balance ≡ o.size → All (Priced (λ q. All (λ f. better q f.price ≡ true) (flat rs))) front → All (Priced (λ q. ⊥)) back →
-      (1 ≤ balance → All (λ e. is_eligible sc e ≡ true → NothingLeft front e) done) → Goes front (walk rule o nat away balance rs).lines (flat rs)
+  pub walk_goes : (rs : List (List Entry)) (balance : ℕ) (done : List Entry) (front back : List Line) → BetterFirst (other_side o.side) rs → AllByRecursion (Tradable balance) rs → es ≡ done ++ flat rs → AllByRecursion (λ e. AllByRecursion (λ f. better e.price f.price ≡ true) (flat rs)) done →
+      tape ≡ (front ++ (walk rule o nat away balance rs).lines) ++ back → total traded_in front + balance ≡ o.size → AllByRecursion (Priced (λ q. AllByRecursion (λ f. better q f.price ≡ true) (flat rs))) front → AllByRecursion (Priced (λ q. ⊥)) back →
+      (1 ≤ balance → AllByRecursion (λ e. is_eligible sc e ≡ true → NothingLeft front e) done) → Goes front (walk rule o nat away balance rs).lines (flat rs)
   unfolding walk
   walk_goes [] balance done front back st ok whole first is brings near none gone = record { fair = tt; served = tt }
   walk_goes ([] ∷ rs) balance done front back st ok whole first is brings near none gone = absurd st
@@ -223,7 +223,7 @@ module _ (rule : Sharing) (lawful : Lawful rule) (o : Routed) (least : ℕ) (awa
       let rest = flat rs in
       let here = level rule o (is_price_of nat p) balance run in
       let beyond = walk rule o nat away here.balance rs in
-      let level_run : All (λ f. f.price ≡ p) run = (refl, st.0) in
+      let level_run : AllByRecursion (λ f. f.price ≡ p) run = (refl, st.0) in
       let pays = (one_price rule lawful o (is_price_of nat p) balance run ok.0).pays in
       let less = all_smaller rule lawful o here.balance balance (omega (arith, pays)) rs ok.1 in
       cond_both {A = Deal} (leb 1 balance && in_reach o.side o.cap away p)
@@ -235,25 +235,25 @@ module _ (rule : Sharing) (lawful : Lawful rule) (o : Routed) (least : ℕ) (awa
       let shifted : tape ≡ ((front ++ here.lines) ++ beyond.lines) ++ back = told ∙ ap (λ l. l ++ back) (sym (append_assoc front here.lines beyond.lines)) in
       let did = come balance done run rest p front (beyond.lines ++ back) (record {
         whole = whole;
-        first = All-weaker (λ g. All (λ f. better g.price f.price ≡ true) (run ++ rest)) (λ g. better g.price p ≡ true) (λ g h. h.0) done first;
+        first = All-weaker (λ g. AllByRecursion (λ f. better g.price f.price ≡ true) (run ++ rest)) (λ g. better g.price p ≡ true) (λ g h. h.0) done first;
         priced = level_run;
         beyond = st.1;
         ok = ok.0;
         reach = able.1;
         brings = brings;
         is = shifted ∙ append_assoc (front ++ here.lines) beyond.lines back;
-        nearer_fills = all_priced (λ q. All (λ f. better q f.price ≡ true) (run ++ rest)) (λ q. better q p ≡ true) (λ q h. h.0) front near;
+        nearer_fills = all_priced (λ q. AllByRecursion (λ f. better q f.price ≡ true) (run ++ rest)) (λ q. better q p ≡ true) (λ q h. h.0) front near;
         farther_fills = All-append (Priced (λ q. better p q ≡ true)) beyond.lines back (walk_priced rule lawful o (λ q. better p q ≡ true) nat away here.balance rs less st.1) (all_priced (λ q. ⊥) (λ q. better p q ≡ true) (λ q h. absurd h) back none);
         gone = gone;
       }) in
-      let Beats : ℕ → Type 0 = λ q. All (λ f. better q f.price ≡ true) rest in
-      let behind : All (λ g. Beats g.price) run = all_at Beats p st.1 run level_run in
+      let Beats : ℕ → Type 0 = λ q. AllByRecursion (λ f. better q f.price ≡ true) rest in
+      let behind : AllByRecursion (λ g. Beats g.price) run = all_at Beats p st.1 run level_run in
       let on = walk_goes rs here.balance (done ++ run) (front ++ here.lines) back st.2 less
       (whole ∙ sym (append_assoc done run rest))
-      (All-append (λ g. Beats g.price) done run (All-weaker (λ g. All (λ f. better g.price f.price ≡ true) (run ++ rest)) (λ g. Beats g.price) (λ g h. (all_split (λ f. better g.price f.price ≡ true) run rest h).1) done first) behind)
+      (All-append (λ g. Beats g.price) done run (All-weaker (λ g. AllByRecursion (λ f. better g.price f.price ≡ true) (run ++ rest)) (λ g. Beats g.price) (λ g h. (all_split (λ f. better g.price f.price ≡ true) run rest h).1) done first) behind)
       shifted
       (omega (arith, pays, brings, total_append traded_in front here.lines))
-      (All-append (Priced Beats) front here.lines (all_priced (λ q. All (λ f. better q f.price ≡ true) (run ++ rest)) Beats (λ q h. (all_split (λ f. better q f.price ≡ true) run rest h).1) front near) (level_priced rule lawful o Beats (is_price_of nat p) balance run ok.0 behind))
+      (All-append (Priced Beats) front here.lines (all_priced (λ q. AllByRecursion (λ f. better q f.price ≡ true) (run ++ rest)) Beats (λ q h. (all_split (λ f. better q f.price ≡ true) run rest h).1) front near) (level_priced rule lawful o Beats (is_price_of nat p) balance run ok.0 behind))
       none
       (λ some. All-append (λ g. is_eligible sc g ≡ true → NothingLeft (front ++ here.lines) g) done run
       (All-weaker (λ g. is_eligible sc g ≡ true → NothingLeft front g) (λ g. is_eligible sc g ≡ true → NothingLeft (front ++ here.lines) g) (λ g h able'. left_more front (front ++ here.lines) (part_front front here.lines) g (h able')) done (gone (omega (arith, pays))))

@@ -1,6 +1,6 @@
 -- The makers' guarantee, and floors. Assumes nothing.
 use Rattle.std.specs.Prelude.{◌≡◌, ℕ, ◌≤◌, min, Bool, true, false, map}
-use Rattle.std.specs.List.{AllZip, AllByRecursion as All}
+use Rattle.std.specs.List.{AllZip, AllByRecursion}
 use Rattle.sharing.specs.Totals.{total, count}
 use Rattle.rules.specs.declared.tape.Step.{Step}
 use Rattle.rules.specs.declared.tape.Step.TheVariants.{CustomerMarketOrders, OtherMarketOrders, CustomerLimitOrders, GuaranteedQuotes, OtherInterest}
@@ -31,8 +31,8 @@ pub record Served (sc : Scene) (p : ℕ) : Type 0 where
   pub floors : (k : Step) → is_shared k ≡ true → AllZip ◌≤◌ (sc.rule.floors (shared_amount sc p k) (map claim_of (claimants sc p k))) (map (gets sc) (claimants sc p k))
 
 pub record GuaranteeAndFloors (sc : Scene) : Type 0 where
-  pub served : All (λ e. may_come sc e.price ≡ true → Served sc e.price) sc.standing
+  pub served : AllByRecursion (λ e. may_come sc e.price ≡ true → Served sc e.price) sc.standing
   -- no entry gets more than it holds
-  pub within : All (λ e. gets sc e ≤ e.size) sc.standing
+  pub within : AllByRecursion (λ e. gets sc e ≤ e.size) sc.standing
   -- no line names an entry at a price to which the order may not come: out of reach, or its least size is not available
-  pub apart : All (λ e. may_come sc e.price ≡ false → count (names e.id) sc.tape ≡ 0) sc.standing
+  pub apart : AllByRecursion (λ e. may_come sc e.price ≡ false → count (names e.id) sc.tape ≡ 0) sc.standing

@@ -1,6 +1,6 @@
 -- Priority and price. Assumes nothing.
 use Rattle.std.specs.Prelude.{◌≡◌, ℕ, ◌≤◌, Bool, true, ◌&&◌, ◌||◌, ◌⊎◌, List, [], ◌∷◌, ◌++◌, ◌==◌, nat_lt}
-use Rattle.std.specs.List.{AllByRecursion as All}
+use Rattle.std.specs.List.{AllByRecursion}
 use Rattle.sharing.specs.Totals.{total}
 use Rattle.rules.specs.declared.tape.Line.{Line}
 use Rattle.rules.specs.declared.tape.Line.TheVariants.{Fill, Cancel, Filled, Rest, Route}
@@ -48,7 +48,7 @@ pub record FairFill (sc : Scene) (lines : List Line) (id firm size price : ℕ) 
   pub capped : in_cap sc.side sc.cap price ≡ true
   pub nearest : not_better_away sc.side sc.away price ≡ true
   -- no entry ahead of that one has an eligible contract left
-  pub turn : All (λ e. is_ahead (other_side sc.side) e entry ≡ true → is_eligible sc e ≡ true → NothingLeft lines e) sc.standing
+  pub turn : AllByRecursion (λ e. is_ahead (other_side sc.side) e entry ≡ true → is_eligible sc e ≡ true → NothingLeft lines e) sc.standing
 
 abbrev pub FairLine : Scene → List Line → Line → Type 0
 FairLine sc lines (Fill id firm size price step) = FairFill sc lines id firm size price step

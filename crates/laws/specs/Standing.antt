@@ -1,6 +1,6 @@
 -- The entries that stand on a side, as the records tell, and an order's cap. Assumes nothing.
 use Rattle.std.specs.Prelude.{◌≡◌, ℕ, ◌≤◌, List, Some, Option, nat_eq}
-use Rattle.std.specs.List.{AllByRecursion as All}
+use Rattle.std.specs.List.{AllByRecursion}
 use Rattle.sharing.specs.Totals.{count}
 use Rattle.rules.specs.declared.terms.Entry.{Entry}
 use Rattle.rules.specs.declared.terms.Side.{Side}
@@ -35,7 +35,7 @@ pub record Stands (s : Side) (rs : List Told) (e : Entry) : Type 0 where
 -- a list in rank order with exactly the entries that stand on a side
 pub record Standing (s : Side) (rs : List Told) (es : List Entry) : Type 0 where
   pub ranked : InRank s es
-  pub standing : All (Stands s rs) es
+  pub standing : AllByRecursion (Stands s rs) es
   -- none is missing: each order of that side that holds contracts is there
   pub whole : (i : ℕ) (a : Arrived) → arrived i rs ≡ Some a → a.order.side ≡ s → 1 ≤ holds (account i rs) → 1 ≤ count (λ e. nat_eq e.id i) es
 

@@ -1,6 +1,6 @@
 -- Barred entries go, one after another. Assumes nothing.
 use Rattle.std.proofs.Common.{◌≡◌, ℕ, ◌+◌, ◌<◌, ◌≤◌, Bool, true, false, not, List, [], ◌∷◌, ◌++◌, map, length, get_or, take, drop, set, filter, sym, refl, ap, ◌∙◌, arith, length-append}
-use Rattle.std.specs.List.{AllByRecursion as All}
+use Rattle.std.specs.List.{AllByRecursion}
 use Rattle.std.proofs.lemmas.List.Elements.{filter-append, filter_more}
 use Rattle.std.proofs.ByRecursion.{All-get_or}
 use Rattle.std.proofs.lemmas.List.Filters.{length-filter_both}
@@ -32,7 +32,7 @@ pub record Barring (barred : Entry → Bool) (run0 : List Entry) (at0 : ℕ) (ta
   pub long : length run ≡ length run0
 
 module _ (barred : Entry → Bool) (run0 : List Entry) (at0 : ℕ) (tape0 : List Line) (i : ℕ) (run : List Entry) (at : ℕ) (tape : List Line) (d : Entry)
-    (state : Barring barred run0 at0 tape0 i run at tape) (inside : i < length run0) (sized : All (λ e. 1 ≤ e.size) run0) (room : at0 + length run0 ≤ length tape0) where
+    (state : Barring barred run0 at0 tape0 i run at tape) (inside : i < length run0) (sized : AllByRecursion (λ e. 1 ≤ e.size) run0) (room : at0 + length run0 ≤ length tape0) where
   within : i < length run
   within = omega (arith, state.long)
 

@@ -1,6 +1,6 @@
 -- One price: what its parts ask, one after another, and what they come to. Assumes nothing.
 use Rattle.std.proofs.Common.{◌≡◌, ℕ, ◌+◌, ◌≤◌, Bool, not, List, map, length, filter, sym, refl, ap, subst, arith, length-append}
-use Rattle.std.specs.List.{AllByRecursion as All}
+use Rattle.std.specs.List.{AllByRecursion}
 use Rattle.std.proofs.ByRecursion.{all_kept_by, All-weaker}
 use Rattle.std.proofs.lemmas.List.{length-map}
 use Rattle.std.proofs.lemmas.Bool.{eqb-true}
@@ -54,7 +54,7 @@ module _ (rule : Sharing) (lawful : Lawful rule) (o : Routed) (at_best : Bool) (
   unfolding level
   level_is = refl
 
-  pub sizes : All (λ e. 1 ≤ e.size) run
+  pub sizes : AllByRecursion (λ e. 1 ≤ e.size) run
   sizes = All-weaker (λ e. (1 ≤ e.size) × (e.size ≤ 99999)) (λ e. 1 ≤ e.size) (λ e h. h.0) run ok.sized
 
   pub ok_0 : Tradable d0.balance d0.run

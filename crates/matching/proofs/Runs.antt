@@ -1,6 +1,6 @@
 -- The first run of entries, and sums over entries in reach. Assumes nothing.
 use Rattle.std.proofs.Common.{◌≡◌, ℕ, ◌+◌, ◌-◌, ◌<◌, ◌≤◌, Bool, true, false, cond, not, ◌&&◌, eqb, List, [], ◌∷◌, ◌++◌, length, get_or, take, drop, Option, sym, refl, ap, ◌∙◌, subst, arith}
-use Rattle.std.specs.List.{between, AllByRecursion as All}
+use Rattle.std.specs.List.{between, AllByRecursion}
 use Rattle.std.proofs.lemmas.List.Edits.{between_none, between_more}
 use Rattle.std.proofs.ByRecursion.{All-push}
 use Rattle.std.proofs.lemmas.List.{take-take, take-append-drop, drop-drop, drop_all, drop_more, get_or-take, length-take, length-take-le, length-drop}
@@ -36,20 +36,20 @@ Apart p [] = Unit {0}
 Apart p (e ∷ es) = p ≡ e.price → ⊥
 
 -- entries of one price, before those of another, are the first run
-runs_first : (p : ℕ) (e : Entry) (xs ys : List Entry) → e.price ≡ p → All (λ (f : Entry). f.price ≡ p) xs → Apart p ys → runs (e ∷ xs ++ ys) ≡ (e ∷ xs) ∷ runs ys
+runs_first : (p : ℕ) (e : Entry) (xs ys : List Entry) → e.price ≡ p → AllByRecursion (λ (f : Entry). f.price ≡ p) xs → Apart p ys → runs (e ∷ xs ++ ys) ≡ (e ∷ xs) ∷ runs ys
 runs_first p e [] [] price level apart = refl
 runs_first p e [] (y ∷ ys) price level apart = into_apart e y (runs ys) (λ h. apart (sym price ∙ h))
 runs_first p e (x ∷ xs) ys price level apart =
     ap (into_runs e) (runs_first p x xs ys level.0 level.1 apart) ∙ cond-true (eqb e.price x.price) _ _ (eq-eqb e.price x.price (price ∙ sym level.0))
 
 -- the entries from a place up to another one, where all of one price end
-runs_upto : (p : ℕ) (es : List Entry) (from to : ℕ) → from < to → to ≤ length es → All (λ (f : Entry). f.price ≡ p) (between from to es) → Apart p (drop to es) → runs (drop from es) ≡ between from to es ∷ runs (drop to es)
+runs_upto : (p : ℕ) (es : List Entry) (from to : ℕ) → from < to → to ≤ length es → AllByRecursion (λ (f : Entry). f.price ≡ p) (between from to es) → Apart p (drop to es) → runs (drop from es) ≡ between from to es ∷ runs (drop to es)
 runs_upto p es from to lt le level apart =
     let beyond : drop (to - from) (drop from es) ≡ drop to es = drop-drop (to - from) from es ∙ ap (λ n. drop n es) (omega arith) in
     let whole = sym (take-append-drop (to - from) (drop from es)) ∙ ap (λ l. between from to es ++ l) beyond in
     ap runs whole ∙ first (between from to es) (omega (arith, length-take (to - from) (drop from es), length-drop from es)) level
   where
-    first : (xs : List Entry) → 0 < length xs → All (λ (f : Entry). f.price ≡ p) xs → runs (xs ++ drop to es) ≡ xs ∷ runs (drop to es)
+    first : (xs : List Entry) → 0 < length xs → AllByRecursion (λ (f : Entry). f.price ≡ p) xs → runs (xs ++ drop to es) ≡ xs ∷ runs (drop to es)
     first [] some level = absurd (omega arith)
     first (x ∷ xs) some level = runs_first p x xs (drop to es) level.0 level.1 apart
 
@@ -58,9 +58,9 @@ pub between_front : (es : List Entry) (from to n : ℕ) → to ≤ n → between
 between_front es from to n le = between_is (take n es) from to ∙ ap (drop from) (take-take to n es le) ∙ sym (between_is es from to)
 
 -- so it is in the first n places
-pub runs_to : (p : ℕ) (es : List Entry) (from to n : ℕ) → from < to → to ≤ n → n ≤ length es → All (λ (f : Entry). f.price ≡ p) (between from to es) → Apart p (drop to (take n es)) → runs (drop from (take n es)) ≡ between from to (take n es) ∷ runs (drop to (take n es))
+pub runs_to : (p : ℕ) (es : List Entry) (from to n : ℕ) → from < to → to ≤ n → n ≤ length es → AllByRecursion (λ (f : Entry). f.price ≡ p) (between from to es) → Apart p (drop to (take n es)) → runs (drop from (take n es)) ≡ between from to (take n es) ∷ runs (drop to (take n es))
 runs_to p es from to n lt le within level apart =
-    runs_upto p (take n es) from to lt (omega (arith, length-take-le n es within)) (subst (All (λ (f : Entry). f.price ≡ p)) (sym (between_front es from to n le)) level) apart
+    runs_upto p (take n es) from to lt (omega (arith, length-take-le n es within)) (subst (AllByRecursion (λ (f : Entry). f.price ≡ p)) (sym (between_front es from to n le)) level) apart
 
 -- the next entry has another price, or there is none
 pub apart_next : (p : ℕ) (es : List Entry) (to n : ℕ) → to < n → n ≤ length es → ((get_or es to no_entry).price ≡ p → ⊥) → Apart p (drop to (take n es))
@@ -71,16 +71,16 @@ apart_next p es to n in' within apart =
 pub apart_end : (p : ℕ) (es : List Entry) (to n : ℕ) → n ≤ to → n ≤ length es → Apart p (drop to (take n es))
 apart_end p es to n past within = subst (Apart p) (sym (drop_all to (take n es) (omega (arith, length-take-le n es within)))) tt
 
-pub level_one : (es : List Entry) (from : ℕ) → from < length es → All (λ (f : Entry). f.price ≡ (get_or es from no_entry).price) (between from (from + 1) es)
+pub level_one : (es : List Entry) (from : ℕ) → from < length es → AllByRecursion (λ (f : Entry). f.price ≡ (get_or es from no_entry).price) (between from (from + 1) es)
 level_one es from in' =
     let P : Entry → Type 0 = λ f. f.price ≡ (get_or es from no_entry).price in
     let one = between_more es from from no_entry (omega arith) in' ∙ ap (λ l. l ++ get_or es from no_entry ∷ []) (between_none es from) in
-    subst (All P) (sym one) (refl, tt)
+    subst (AllByRecursion P) (sym one) (refl, tt)
 
-pub level_more : (p : ℕ) (es : List Entry) (from to : ℕ) → from ≤ to → to < length es → All (λ (f : Entry). f.price ≡ p) (between from to es) → (get_or es to no_entry).price ≡ p → All (λ (f : Entry). f.price ≡ p) (between from (to + 1) es)
+pub level_more : (p : ℕ) (es : List Entry) (from to : ℕ) → from ≤ to → to < length es → AllByRecursion (λ (f : Entry). f.price ≡ p) (between from to es) → (get_or es to no_entry).price ≡ p → AllByRecursion (λ (f : Entry). f.price ≡ p) (between from (to + 1) es)
 level_more p es from to le in' level here =
     let P : Entry → Type 0 = λ f. f.price ≡ p in
-    subst (All P) (sym (between_more es from to no_entry le in')) (All-push P (between from to es) (get_or es to no_entry) level here)
+    subst (AllByRecursion P) (sym (between_more es from to no_entry le in')) (All-push P (between from to es) (get_or es to no_entry) level here)
 
 -- the contracts of an entry that an order can trade with
 abbrev reachable : Routed → Option ℕ → Entry → Bool

@@ -1,7 +1,7 @@
 -- A walk from run to run, as far as it has come in the places of a side. Assumes nothing.
 use Rattle.std.proofs.Common.{◌≡◌, ℕ, zero, suc, ◌+◌, ◌-◌, ◌<◌, ◌≤◌, Bool, true, false, ◌&&◌, eqb, leb, List, [], ◌∷◌, ◌++◌, length, get_or, take, drop, Option, sym, refl, ap, ◌∙◌, subst, arith}
 use borrow.Rule.Slice.PartMut.{put_mid}
-use Rattle.std.specs.List.{between, AllByRecursion as All}
+use Rattle.std.specs.List.{between, AllByRecursion}
 use Rattle.std.proofs.lemmas.List.Edits.{length-between}
 use Rattle.std.proofs.lemmas.List.Elements.{filter-append}
 use Rattle.std.proofs.ByRecursion.{All-append, All-weaker}
@@ -34,11 +34,11 @@ drop_front : {X : Type 0} (xs ys : List X) (a n : ℕ) → drop a xs ≡ drop a 
 drop_front xs ys a n same = sym (between_is xs a n) ∙ ap (take (n - a)) same ∙ between_is ys a n
 
 -- entries with contracts are all there
-live_all : (es : List Entry) → All (λ e. (1 ≤ e.size) × (e.size ≤ 99999)) es → live es ≡ es
+live_all : (es : List Entry) → AllByRecursion (λ e. (1 ≤ e.size) × (e.size ≤ 99999)) es → live es ≡ es
 live_all [] sized = refl
 live_all (e ∷ es) sized = cond-true (is_live e) (e ∷ live es) (live es) (lt-ltb 0 e.size (omega (arith, sized.0.0))) ∙ ap (λ l. e ∷ l) (live_all es sized.1)
 
-sized_flat : (balance : ℕ) (rs : List (List Entry)) → All (Tradable balance) rs → All (λ e. (1 ≤ e.size) × (e.size ≤ 99999)) (flat rs)
+sized_flat : (balance : ℕ) (rs : List (List Entry)) → AllByRecursion (Tradable balance) rs → AllByRecursion (λ e. (1 ≤ e.size) × (e.size ≤ 99999)) (flat rs)
 sized_flat balance [] ok = tt
 sized_flat balance (r ∷ rs) ok = All-append _ r (flat rs) ok.0.sized (sized_flat balance rs ok.1)
 
@@ -88,12 +88,12 @@ pub record Walking (rule : Sharing) (o : Routed) (national away : Option ℕ) (l
   pub behind : at ≤ from
   pub rest : drop from now ≡ drop from places
   pub blank : drop at lines ≡ drop at tape
-  pub tradable : All (Tradable balance) (runs (drop from (take len places)))
+  pub tradable : AllByRecursion (Tradable balance) (runs (drop from (take len places)))
   pub same_balance : (walk rule o national away balance (runs (drop from (take len places)))).balance ≡ (walk rule o national away o.size (runs (take len places))).balance
   pub same_run : live (take from now) ++ (walk rule o national away balance (runs (drop from (take len places)))).run ≡ (walk rule o national away o.size (runs (take len places))).run
   pub same_lines : take at lines ++ (walk rule o national away balance (runs (drop from (take len places)))).lines ≡ (walk rule o national away o.size (runs (take len places))).lines
 
-pub walking_none : (rule : Sharing) (o : Routed) (national away : Option ℕ) (len : ℕ) (places : List Entry) (tape : List Line) → All (Tradable o.size) (runs (take len places)) → Walking rule o national away len places tape places tape o.size 0 0
+pub walking_none : (rule : Sharing) (o : Routed) (national away : Option ℕ) (len : ℕ) (places : List Entry) (tape : List Line) → AllByRecursion (Tradable o.size) (runs (take len places)) → Walking rule o national away len places tape places tape o.size 0 0
 walking_none rule o national away len places tape ok = record { within = omega arith; behind = omega arith; rest = refl; blank = refl; tradable = ok; same_balance = refl; same_run = refl; same_lines = refl }
 
 module _ {rule : Sharing} {o : Routed} {national away : Option ℕ} {len : ℕ} {places now : List Entry} {tape lines : List Line} {balance at from : ℕ} (here : Walking rule o national away len places tape now lines balance at from) (whole : length now ≡ length places) (fits : len ≤ length places) where
@@ -107,8 +107,8 @@ module _ {rule : Sharing} {o : Routed} {national away : Option ℕ} {len : ℕ} 
         let later = drop_later now places from to (omega arith) here.rest in
         ap runs (sym (drop_front now places from len here.rest)) ∙ run ∙ (λ t. between_front now from to len le t ∷ runs (drop_front now places to len later t))
 
-    both_tradable : All (Tradable balance) (between from to now ∷ runs (drop to (take len places)))
-    both_tradable = subst (All (Tradable balance)) next_run here.tradable
+    both_tradable : AllByRecursion (Tradable balance) (between from to now ∷ runs (drop to (take len places)))
+    both_tradable = subst (AllByRecursion (Tradable balance)) next_run here.tradable
 
     pub next_tradable : Tradable balance (between from to now)
     next_tradable = both_tradable.0
@@ -192,7 +192,7 @@ module _ {rule : Sharing} {o : Routed} {national away : Option ℕ} {len : ℕ} 
     done_run : live (take len now) ≡ done.run
     done_run =
         let parts = sym (take-append-drop from (take len now)) ∙ (λ t. take-take from len now here.within t ++ drop_front now places from len here.rest t) in
-        let sized = subst (All (λ e. (1 ≤ e.size) × (e.size ≤ 99999))) (runs_are_whole rest) (sized_flat balance (runs rest) here.tradable) in
+        let sized = subst (AllByRecursion (λ e. (1 ≤ e.size) × (e.size ≤ 99999))) (runs_are_whole rest) (sized_flat balance (runs rest) here.tradable) in
         let end = live_all rest sized ∙ sym (runs_are_whole rest) ∙ ap (λ d. d.run) (sym stops) in
         ap live parts ∙ filter-append is_live (take from now) rest ∙ ap (λ l. live (take from now) ++ l) end ∙ here.same_run
 

@@ -1,6 +1,6 @@
 // One price: barred entries are cancelled, and then the balance is offered in five steps, Rule 964NYP(j).
 ghost use Rattle.std.specs.Prelude.{◌≡◌, ◌+◌, ◌^◌, ◌<◌, ◌≤◌, not, [], map, length, filter, nat_lt};
-ghost use Rattle.std.specs.List.{AllByRecursion as All};
+ghost use Rattle.std.specs.List.{AllByRecursion};
 ghost use Rattle.sharing.specs.Totals.{total, count};
 ghost use Rattle.rules.specs.Checks.{is_barred};
 ghost use Rattle.rules.specs.Laws.{Tradable};
@@ -17,7 +17,7 @@ use sharing::{ByTime, Claim, Rule};
 // Cancels the entries that are barred to an order of this firm, a line for each, with nothing left of them; answers the place
 // behind the last line.
 fn bar(firm: u16, mark: bool, run: &mut [Entry], tape: &mut [Line], at: usize) -> usize
-    requires live { All (λ e. 1 ≤ e.size) run.old }
+    requires live { AllByRecursion (λ e. 1 ≤ e.size) run.old }
     requires room { at + length run.old ≤ length tape.old }
     ensures run { live run.new ≡ filter (λ e. not (is_barred firm mark e)) run.old }
     ensures places { length run.new ≡ length run.old }

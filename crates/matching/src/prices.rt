@@ -1,6 +1,6 @@
 // From price to price, in the places of a side.
 ghost use Rattle.std.specs.Prelude.{◌≡◌, ◌+◌, ◌-◌, ◌^◌, ◌<◌, ◌≤◌, ◌∷◌, length, take, drop, filter};
-ghost use Rattle.std.specs.List.{AllByRecursion as All};
+ghost use Rattle.std.specs.List.{AllByRecursion};
 ghost use Rattle.sharing.specs.Totals.{total};
 ghost use Rattle.rules.specs.Laws.{Tradable};
 ghost use Rattle.rules.specs.Level.{size_of};
@@ -96,7 +96,7 @@ pub fn walk<R: Rule>(
     tape: &mut [Line],
 ) -> Walked
     requires within { len ≤ length places.old }
-    requires tradable { All (Tradable order.now.size) (runs (take len places.old)) }
+    requires tradable { AllByRecursion (Tradable order.now.size) (runs (take len places.old)) }
     requires sheet { len ≤ length sheet.old }
     requires tape { len ≤ length tape.old }
     ensures balance { result.balance ≡ (walking.walk (R.meaning rule.now) order.now national away order.now.size (runs (take len places.old))).balance }

@@ -1,6 +1,6 @@
 -- From price to price: nothing is lost and nothing is made. Assumes nothing.
 use Rattle.std.proofs.Common.{◌≡◌, ℕ, ◌+◌, ◌≤◌, cond, ◌&&◌, eqb, leb, List, [], ◌∷◌, ◌++◌, Option, arith}
-use Rattle.std.specs.List.{AllByRecursion as All}
+use Rattle.std.specs.List.{AllByRecursion}
 use Rattle.std.proofs.ByRecursion.{All-weaker}
 use Rattle.std.proofs.lemmas.Bool.{cond_both}
 use Rattle.sharing.specs.Sharing.{Sharing, Lawful}
@@ -39,7 +39,7 @@ joined balance r es here beyond one rest = record {
   leaves = left_append one.leaves rest.leaves;
 }
 
-fair : (rule : Sharing) → Lawful rule → (o : Routed) (national away : Option ℕ) (balance : ℕ) (rs : List (List Entry)) → All (Tradable balance) rs → Fair balance (flat rs) (walk rule o national away balance rs)
+fair : (rule : Sharing) → Lawful rule → (o : Routed) (national away : Option ℕ) (balance : ℕ) (rs : List (List Entry)) → AllByRecursion (Tradable balance) rs → Fair balance (flat rs) (walk rule o national away balance rs)
 unfolding walk
 fair rule lawful o national away balance [] ok = stays balance []
 fair rule lawful o national away balance (r ∷ rs) ok =

@@ -1,6 +1,6 @@
 -- Every accepted call leaves the book sound. Assumes nothing.
 use Rattle.std.proofs.Common.{◌≡◌, ℕ, ◌+◌, ◌-◌, ◌<◌, ◌≤◌, Bool, true, false, cond, not, ◌&&◌, ◌||◌, eqb, ltb, leb, ◌⊎◌, List, [], ◌∷◌, ◌++◌, length, is_some, Some, None, filter, Option, unwrap_or, sym, refl, ap, ◌∙◌, subst, inl, inr, ⊎_elim, arith}
-use Rattle.std.specs.List.{AllByRecursion as All}
+use Rattle.std.specs.List.{AllByRecursion}
 use Rattle.std.proofs.lemmas.Bool.{true≢false, false≢true, cases_Bool, cond_both, cond-true, cond-false, and_parts, or_parts, not-false, eqb-true, eqb-false, leb-true, leb-false, ltb-false}
 use Rattle.sharing.specs.Rules.{by_time}
 use Rattle.sharing.specs.Sharing.{Sharing}
@@ -35,11 +35,11 @@ use Rattle.rules.proofs.Leaves.{count_left, left_refl, left_append, left_kept, l
 use Rattle.rules.proofs.Moves.{has_id, counts, good_side, thinned, recounted, rested, sent_out, given_back, stands_nowhere}
 
 -- a call is refused, or none of its checks fits and it is carried out
-pub checked_by : (P : Outcome → Type 0) → ((r : Refusal) → P (refused r)) → (cs : List Check) (o : Outcome) → (All (λ c. c.0 ≡ false) cs → P o) → P (checked cs o)
+pub checked_by : (P : Outcome → Type 0) → ((r : Refusal) → P (refused r)) → (cs : List Check) (o : Outcome) → (AllByRecursion (λ c. c.0 ≡ false) cs → P o) → P (checked cs o)
 checked_by P down [] o h = h tt
 checked_by P down (c ∷ cs) o h = cond_both c.0 (refused c.1) (checked cs o) P (λ _. down c.1) (λ free. checked_by P down cs o (λ all. h (free, all)))
 
-checked_keeps : (cs : List Check) (o : Outcome) → (All (λ c. c.0 ≡ false) cs → Keeps o) → Keeps (checked cs o)
+checked_keeps : (cs : List Check) (o : Outcome) → (AllByRecursion (λ c. c.0 ≡ false) cs → Keeps o) → Keeps (checked cs o)
 checked_keeps cs o h = checked_by Keeps (λ r. tt) cs o h
 
 -- a balance never grows
@@ -163,7 +163,7 @@ pub record EntryFits (c : Entering) (m : Model) : Type 0 where
   pub time : m.counters.last_time ≤ 4000000000
   pub room : c.order.may_route ≡ true → length m.out < 16
 
-pub entry_fits : (c : Entering) (m : Model) → Sound m → All (λ k. k.0 ≡ false) (entry_checks c m) → EntryFits c m
+pub entry_fits : (c : Entering) (m : Model) → Sound m → AllByRecursion (λ k. k.0 ≡ false) (entry_checks c m) → EntryFits c m
 entry_fits c m sound all =
     let o = c.order in
     let tick = m.opening.tick in
@@ -214,7 +214,7 @@ module _ {X : Type 0} (id : X → ℕ) (i : ℕ) where
       (λ away. inr (away, sym (cond-false (eqb (id x) i) (Some x) (found_in id i xs) away) ∙ found))
       (cases_Bool (eqb (id x) i))
 
-  pub found_all : (P : X → Type 0) (xs : List X) (y : X) → found_in id i xs ≡ Some y → All P xs → P y
+  pub found_all : (P : X → Type 0) (xs : List X) (y : X) → found_in id i xs ≡ Some y → AllByRecursion P xs → P y
   found_all P [] y found ps = absurd (false≢true (ap is_some found))
   found_all P (x ∷ xs) y found ps = ⊎_elim (λ here. subst P here.1 ps.0) (λ away. found_all P xs y away.1 ps.1) (found_head x xs y found)
 

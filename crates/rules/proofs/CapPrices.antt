@@ -1,6 +1,6 @@
 -- A cap is a price. Assumes nothing.
 use Rattle.std.proofs.Common.{◌≡◌, ℕ, ◌+◌, ◌-◌, ◌*◌, ◌%◌, ◌≤◌, min, Bool, true, false, cond, not, ◌&&◌, eqb, leb, List, [], ◌∷◌, is_some, Some, None, Option, unwrap_or, sym, refl, ap, ◌∙◌, subst, ⊎_elim, arith}
-use Rattle.std.specs.List.{AllByRecursion as All}
+use Rattle.std.specs.List.{AllByRecursion}
 use Rattle.std.proofs.lemmas.Bool.{false≢true, true≢false, and_parts, and_from, eqb-true, eq-eqb, leb-true, le-leb, not-false, cond_both}
 use Rattle.rules.specs.declared.terms.Entry.{Entry}
 use Rattle.rules.specs.declared.terms.Side.{Side}
@@ -92,6 +92,6 @@ national_price tick s None a here there = there
 national_price tick s (Some p) None here there = here
 national_price tick s (Some p) (Some q) here there = cond_both (is_better s q p) q p (λ x. not (is_price tick x) ≡ false) (λ _. there) (λ _. here)
 
-pub best_price : (tick : ℕ) (n : Counters) (es : List Entry) → All (GoodEntry tick n) es → bad_price tick (best es) ≡ false
+pub best_price : (tick : ℕ) (n : Counters) (es : List Entry) → AllByRecursion (GoodEntry tick n) es → bad_price tick (best es) ≡ false
 best_price tick n [] good = refl
 best_price tick n (e ∷ es) good = ap not good.0.price

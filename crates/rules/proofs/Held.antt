@@ -1,6 +1,6 @@
 -- What entries hold, and what a step takes of it. Assumes nothing.
 use Rattle.std.proofs.Common.{◌≡◌, ℕ, ◌+◌, ◌-◌, ◌<◌, ◌≤◌, Bool, true, false, cond, eqb, ltb, List, [], ◌∷◌, map, length, filter, sym, refl, ap, ◌∙◌, arith}
-use Rattle.std.specs.List.{AllZip, AllByRecursion as All}
+use Rattle.std.specs.List.{AllZip, AllByRecursion}
 use Rattle.std.proofs.ByRecursion.{all_kept_by, kept_by_passes, All-map}
 use Rattle.std.proofs.lemmas.Bool.{ltb-true, ltb-false, cond_both}
 use Rattle.sharing.specs.Totals.{total}
@@ -108,19 +108,19 @@ taken_fills i k (n ∷ ns) (e ∷ es) long =
     omega (arith, ap (λ m. cond (eqb e.id i) m 0) none, nothing (eqb e.id i)))
 
 -- what a test keeps of the entries, and of what is left of them
-pub all_left : (P : Entry → Type 0) → ((n : ℕ) (e : Entry) → P e → P (resized n e)) → (ns : List ℕ) (es : List Entry) → All P es → All P (left_after ns es)
+pub all_left : (P : Entry → Type 0) → ((n : ℕ) (e : Entry) → P e → P (resized n e)) → (ns : List ℕ) (es : List Entry) → AllByRecursion P es → AllByRecursion P (left_after ns es)
 all_left P keeps [] es ps = ps
 all_left P keeps (n ∷ ns) [] ps = tt
 all_left P keeps (n ∷ ns) (e ∷ es) ps =
-    cond_both (ltb n e.size) (resized (e.size - n) e ∷ left_after ns es) (left_after ns es) (All P)
+    cond_both (ltb n e.size) (resized (e.size - n) e ∷ left_after ns es) (left_after ns es) (AllByRecursion P)
     (λ _. (keeps (e.size - n) e ps.0, all_left P keeps ns es ps.1))
     (λ _. all_left P keeps ns es ps.1)
 
-pub sized_left : (ns : List ℕ) (es : List Entry) → All (λ e. (1 ≤ e.size) × (e.size ≤ 99999)) es → All (λ e. (1 ≤ e.size) × (e.size ≤ 99999)) (left_after ns es)
+pub sized_left : (ns : List ℕ) (es : List Entry) → AllByRecursion (λ e. (1 ≤ e.size) × (e.size ≤ 99999)) es → AllByRecursion (λ e. (1 ≤ e.size) × (e.size ≤ 99999)) (left_after ns es)
 sized_left [] es ps = ps
 sized_left (n ∷ ns) [] ps = tt
 sized_left (n ∷ ns) (e ∷ es) ps =
-    cond_both (ltb n e.size) (resized (e.size - n) e ∷ left_after ns es) (left_after ns es) (All (λ f. (1 ≤ f.size) × (f.size ≤ 99999)))
+    cond_both (ltb n e.size) (resized (e.size - n) e ∷ left_after ns es) (left_after ns es) (AllByRecursion (λ f. (1 ≤ f.size) × (f.size ≤ 99999)))
     (λ lt. let h = ltb-true n e.size lt in ((omega arith, omega (arith, ps.0.1)), sized_left ns es ps.1))
     (λ _. sized_left ns es ps.1)
 
@@ -165,6 +165,6 @@ ascending_kept p k one (e ∷ es) s =
     ))
     (λ _. ascending_kept p k one es s.1)
   where
-    both : (fs : List Entry) → All (λ f. class_of e ≡ class_of f → e.time < f.time) fs → All (λ f. p f ≡ true) fs → p e ≡ true → All (λ f. e.time < f.time) fs
+    both : (fs : List Entry) → AllByRecursion (λ f. class_of e ≡ class_of f → e.time < f.time) fs → AllByRecursion (λ f. p f ≡ true) fs → p e ≡ true → AllByRecursion (λ f. e.time < f.time) fs
     both [] later passes here = tt
     both (f ∷ fs) later passes here = (later.0 (one e here ∙ sym (one f passes.0)), both fs later.1 passes.1 here)

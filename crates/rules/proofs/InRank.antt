@@ -1,6 +1,6 @@
 -- Sides stay in rank: after what is left, after an insertion, after entries go. Assumes nothing.
 use Rattle.std.proofs.Common.{◌≡◌, ℕ, ◌<◌, ◌≤◌, true, false, List, [], ◌∷◌, length, arith}
-use Rattle.std.specs.List.{AllByRecursion as All}
+use Rattle.std.specs.List.{AllByRecursion}
 use Rattle.std.proofs.ByRecursion.{All-weaker}
 use Rattle.std.proofs.lemmas.Bool.{cond_both}
 use Rattle.std.proofs.lemmas.Bool.Decides.{nat_tests}
@@ -25,7 +25,7 @@ rank_times Buy r t p q = grind (arith, nat_tests)
 rank_times Sell r t p q = grind (arith, nat_tests)
 
 -- what holds of each entry, whatever it holds, holds of each that is left
-pub all_left_of : (P : Entry → Type 0) → ((n : ℕ) (e : Entry) → 1 ≤ n → n ≤ e.size → P e → P (resized n e)) → {es fs : List Entry} → LeftOf es fs → All P es → All P fs
+pub all_left_of : (P : Entry → Type 0) → ((n : ℕ) (e : Entry) → 1 ≤ n → n ≤ e.size → P e → P (resized n e)) → {es fs : List Entry} → LeftOf es fs → AllByRecursion P es → AllByRecursion P fs
 all_left_of P keeps none ps = tt
 all_left_of P keeps (gone g) ps = all_left_of P keeps g ps.1
 all_left_of P keeps (same g) ps = (ps.0, all_left_of P keeps g ps.1)
@@ -44,7 +44,7 @@ length_left_of (same g) = omega (arith, length_left_of g)
 length_left_of (fewer n one le g) = omega (arith, length_left_of g)
 
 -- an entry with a later time than all finds its place
-pub in_rank_inserted : (s : Side) (e : Entry) (es : List Entry) → All (λ f. f.time < e.time) es → InRank s es → InRank s (ranked_in s e es)
+pub in_rank_inserted : (s : Side) (e : Entry) (es : List Entry) → AllByRecursion (λ f. f.time < e.time) es → InRank s es → InRank s (ranked_in s e es)
 in_rank_inserted s e [] later r = (tt, tt)
 in_rank_inserted s e (f ∷ fs) later r =
     cond_both (rank_before s (rank_of e) (rank_of f)) (e ∷ f ∷ fs) (f ∷ ranked_in s e fs) (InRank s)

@@ -1,6 +1,6 @@
 -- What can happen to a sound book leaves it sound. Assumes nothing.
 use Rattle.std.proofs.Common.{◌≡◌, ℕ, ◌+◌, ◌<◌, ◌≤◌, Bool, true, eqb, List, [], ◌∷◌, ◌++◌, length, filter, sym, refl, ap, ◌∙◌, ⊎_elim, arith, length-append}
-use Rattle.std.specs.List.{AllByRecursion as All}
+use Rattle.std.specs.List.{AllByRecursion}
 use Rattle.std.proofs.ByRecursion.{All-weaker, All-append, all_kept_by}
 use Rattle.std.proofs.lemmas.Bool.{cases_Bool, cond_both, eqb-true, ne_eqb}
 use Rattle.ranked.specs.Ranked.{ahead}
@@ -150,11 +150,11 @@ given_back p m sound = record {
     rows_counted p i (r ∷ rs) = let more = rows_counted p i rs in cond_both (p r) (r ∷ filter p rs) (filter p rs) (λ l. count (λ x. eqb x.id i) l ≤ count (λ x. eqb x.id i) (r ∷ rs)) (λ _. omega arith) (λ _. omega arith)
 
 -- an id above all that were given out stands nowhere
-entries_below : (i n : ℕ) → n < i → (es : List Entry) → All (λ e. e.id ≤ n) es → count (has_id i) es ≡ 0
+entries_below : (i n : ℕ) → n < i → (es : List Entry) → AllByRecursion (λ e. e.id ≤ n) es → count (has_id i) es ≡ 0
 entries_below i n lt [] known = refl
 entries_below i n lt (e ∷ es) known = let none = ap one_if (ne_eqb e.id i (λ same. omega (arith, known.0))) in omega (arith, entries_below i n lt es known.1)
 
-rows_below : (i n : ℕ) → n < i → (rs : List Routed) → All (λ r. r.id ≤ n) rs → count (λ r. eqb r.id i) rs ≡ 0
+rows_below : (i n : ℕ) → n < i → (rs : List Routed) → AllByRecursion (λ r. r.id ≤ n) rs → count (λ r. eqb r.id i) rs ≡ 0
 rows_below i n lt [] known = refl
 rows_below i n lt (r ∷ rs) known = let none = ap one_if (ne_eqb r.id i (λ same. omega (arith, known.0))) in omega (arith, rows_below i n lt rs known.1)
 

@@ -1,7 +1,7 @@
 -- One price under any lawful rule: the order or the price is exhausted. Assumes nothing.
 use Rattle.std.proofs.Common.{◌≡◌, ℕ, ◌+◌, ◌-◌, ◌*◌, ◌/◌, ◌<◌, ◌≤◌, min, Bool, true, false, cond, not, ◌&&◌, eqb, ltb, leb, List, [], ◌∷◌, map, Some, None, filter, Option, sym, refl, ap, ◌∙◌, subst, inl, inr, ⊎_elim, mul-le-mul_right, mul_comm, add-mul, mul-le-mul_left, mul-add, arith}
 use native.Mathlib.Nat.{div-le_of_le-mul}
-use Rattle.std.specs.List.{AllByRecursion as All}
+use Rattle.std.specs.List.{AllByRecursion}
 use Rattle.std.proofs.lemmas.Nat.{le-div}
 use Rattle.std.proofs.ByRecursion.{all_kept_by}
 use Rattle.std.proofs.lemmas.Bool.{false≢true, and_parts, eqb-true, ne_eqb, cond_both, leb-true, cases_Bool, cases_lt}
@@ -222,7 +222,7 @@ by_class : (es : List Entry) → total size_of es ≡ ((held (in_class 1) es + h
 by_class [] = refl
 by_class (e ∷ es) = omega (arith, one_class e.market (is_customer e.kind) e.size, by_class es)
 
-nothing_left : (es : List Entry) → All (λ e. (1 ≤ e.size) × (e.size ≤ 99999)) es → total size_of es ≡ 0 → es ≡ []
+nothing_left : (es : List Entry) → AllByRecursion (λ e. (1 ≤ e.size) × (e.size ≤ 99999)) es → total size_of es ≡ 0 → es ≡ []
 nothing_left [] sized none = refl
 nothing_left (e ∷ es) sized none = absurd (omega (arith, sized.0.0))
 

@@ -1,6 +1,6 @@
 -- In a sound side what stands at each price meets what the laws of a price ask. Assumes nothing.
 use Rattle.std.proofs.Common.{◌≡◌, ℕ, ◌+◌, ◌<◌, ◌≤◌, true, eqb, List, [], ◌∷◌, length, sym, refl, ◌∙◌, subst, arith}
-use Rattle.std.specs.List.{AllByRecursion as All}
+use Rattle.std.specs.List.{AllByRecursion}
 use Rattle.std.proofs.ByRecursion.{All-weaker}
 use Rattle.std.proofs.lemmas.Bool.{cond_both, eqb-true}
 use Rattle.std.proofs.lemmas.Bool.Decides.{nat_tests}
@@ -24,22 +24,22 @@ earlier_of s e f before price class = timed s e.price f.price (class_of e) (clas
 
 -- a run of one price, in rank, no longer than n
 record GoodRun (tick : ℕ) (c : Counters) (s : Side) (n : ℕ) (r : List Entry) : Type 0 where
-  pub good : All (GoodEntry tick c) r
+  pub good : AllByRecursion (GoodEntry tick c) r
   pub timed : ByTime r
   pub short : length r ≤ n
 
 -- each entry of a run has the price of its first
 abbrev LevelPrice : List Entry → Type 0
 LevelPrice [] = Unit {0}
-LevelPrice (e ∷ es) = All (λ f. f.price ≡ e.price) es
+LevelPrice (e ∷ es) = AllByRecursion (λ f. f.price ≡ e.price) es
 
 -- what holds of each entry holds of each of each run
-into_all : (P : Entry → Type 0) (e : Entry) (rs : List (List Entry)) → P e → All (All P) rs → All (All P) (into_runs e rs)
+into_all : (P : Entry → Type 0) (e : Entry) (rs : List (List Entry)) → P e → AllByRecursion (AllByRecursion P) rs → AllByRecursion (AllByRecursion P) (into_runs e rs)
 into_all P e [] p ps = ((p, tt), tt)
 into_all P e ([] ∷ rs) p ps = ((p, tt), ps.1)
-into_all P e ((f ∷ fs) ∷ rs) p ps = cond_both (eqb e.price f.price) ((e ∷ f ∷ fs) ∷ rs) ((e ∷ []) ∷ (f ∷ fs) ∷ rs) (All (All P)) (λ _. ((p, ps.0), ps.1)) (λ _. ((p, tt), ps))
+into_all P e ((f ∷ fs) ∷ rs) p ps = cond_both (eqb e.price f.price) ((e ∷ f ∷ fs) ∷ rs) ((e ∷ []) ∷ (f ∷ fs) ∷ rs) (AllByRecursion (AllByRecursion P)) (λ _. ((p, ps.0), ps.1)) (λ _. ((p, tt), ps))
 
-pub all_runs : (P : Entry → Type 0) (es : List Entry) → All P es → All (All P) (runs es)
+pub all_runs : (P : Entry → Type 0) (es : List Entry) → AllByRecursion P es → AllByRecursion (AllByRecursion P) (runs es)
 all_runs P [] ps = tt
 all_runs P (e ∷ es) ps = into_all P e (runs es) ps.0 (all_runs P es ps.1)
 
@@ -47,25 +47,25 @@ module _ (tick : ℕ) (c : Counters) (s : Side) where
   abbrev Fine : ℕ → List Entry → Type 0
   Fine n r = GoodRun tick c s n r × LevelPrice r
 
-  longer : (n : ℕ) (rs : List (List Entry)) → All (Fine n) rs → All (Fine (n + 1)) rs
+  longer : (n : ℕ) (rs : List (List Entry)) → AllByRecursion (Fine n) rs → AllByRecursion (Fine (n + 1)) rs
   longer n rs fine = All-weaker (Fine n) (Fine (n + 1)) (λ r h. (record { good = h.0.good; timed = h.0.timed; short = omega (arith, h.0.short) }, h.1)) rs fine
 
   alone : (n : ℕ) (e : Entry) → GoodEntry tick c e → Fine (n + 1) (e ∷ [])
   alone n e good = (record { good = (good, tt); timed = (tt, tt); short = omega arith }, tt)
 
-  both : (e : Entry) (fs : List Entry) (p : ℕ) → e.price ≡ p → All (λ g. g.price ≡ p) fs → All (λ g. rank_before s (rank_of e) (rank_of g) ≡ true) fs → All (λ g. class_of e ≡ class_of g → e.time < g.time) fs
+  both : (e : Entry) (fs : List Entry) (p : ℕ) → e.price ≡ p → AllByRecursion (λ g. g.price ≡ p) fs → AllByRecursion (λ g. rank_before s (rank_of e) (rank_of g) ≡ true) fs → AllByRecursion (λ g. class_of e ≡ class_of g → e.time < g.time) fs
   both e [] p price level ranked = tt
   both e (g ∷ gs) p price level ranked = (earlier_of s e g ranked.0 (price ∙ sym level.0), both e gs p price level.1 ranked.1)
 
-  into_fine : (n : ℕ) (e : Entry) (rs : List (List Entry)) → GoodEntry tick c e → All (All (λ g. rank_before s (rank_of e) (rank_of g) ≡ true)) rs → All (Fine n) rs → All (Fine (n + 1)) (into_runs e rs)
+  into_fine : (n : ℕ) (e : Entry) (rs : List (List Entry)) → GoodEntry tick c e → AllByRecursion (AllByRecursion (λ g. rank_before s (rank_of e) (rank_of g) ≡ true)) rs → AllByRecursion (Fine n) rs → AllByRecursion (Fine (n + 1)) (into_runs e rs)
   into_fine n e [] good ranked fine = (alone n e good, tt)
   into_fine n e ([] ∷ rs) good ranked fine = (alone n e good, longer n rs fine.1)
   into_fine n e ((f ∷ fs) ∷ rs) good ranked fine =
-      cond_both (eqb e.price f.price) ((e ∷ f ∷ fs) ∷ rs) ((e ∷ []) ∷ (f ∷ fs) ∷ rs) (All (Fine (n + 1)))
+      cond_both (eqb e.price f.price) ((e ∷ f ∷ fs) ∷ rs) ((e ∷ []) ∷ (f ∷ fs) ∷ rs) (AllByRecursion (Fine (n + 1)))
       (λ level.
       let price = eqb-true e.price f.price level in
       let here = fine.0 in
-      let level_all : All (λ g. g.price ≡ f.price) (f ∷ fs) = (refl, here.1) in (
+      let level_all : AllByRecursion (λ g. g.price ≡ f.price) (f ∷ fs) = (refl, here.1) in (
         (
           record {
             good = (good, here.0.good);
@@ -78,12 +78,12 @@ module _ (tick : ℕ) (c : Counters) (s : Side) where
       ))
       (λ _. (alone n e good, longer n ((f ∷ fs) ∷ rs) fine))
 
-  runs_fine : (es : List Entry) → InRank s es → All (GoodEntry tick c) es → All (Fine (length es)) (runs es)
+  runs_fine : (es : List Entry) → InRank s es → AllByRecursion (GoodEntry tick c) es → AllByRecursion (Fine (length es)) (runs es)
   runs_fine [] ranked good = tt
   runs_fine (e ∷ es) ranked good =
       let more = into_fine (length es) e (runs es) good.0 (all_runs (λ g. rank_before s (rank_of e) (rank_of g) ≡ true) es ranked.0) (runs_fine es ranked.1 good.1) in
       let long : length es + 1 ≡ length (e ∷ es) = omega arith in
-      subst (λ n. All (Fine n) (into_runs e (runs es))) long more
+      subst (λ n. AllByRecursion (Fine n) (into_runs e (runs es))) long more
 
 pub places_few : (s : Side) (m : Model) → Sound m → length (entries s m) ≤ 256
 places_few Buy m sound = omega (arith, sound.bids.few, sound.bid_places)

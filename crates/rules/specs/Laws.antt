@@ -1,6 +1,6 @@
 -- First laws of the definitions: what one price leaves, and what an order does from price to price. Assumes nothing.
 use Rattle.std.specs.Prelude.{◌≡◌, ℕ, ◌+◌, ◌<◌, ◌≤◌, min, Bool, false, cond, not, ◌⊎◌, List, [], ◌∷◌, length, filter, Option, ◌==◌, nat_eq}
-use Rattle.std.specs.List.{AllByRecursion as All}
+use Rattle.std.specs.List.{AllByRecursion}
 use Rattle.sharing.specs.Sharing.{Sharing, Lawful}
 use Rattle.sharing.specs.Totals.{total, count}
 use Rattle.rules.specs.declared.tape.Line.{Line}
@@ -23,13 +23,13 @@ traded_in (Route id firm size) = 0
 -- of two entries of one class the first is the earlier
 abbrev pub ByTime : List Entry → Type 0
 ByTime [] = Unit {0}
-ByTime (e ∷ es) = All (λ f. class_of e ≡ class_of f → e.time < f.time) es × ByTime es
+ByTime (e ∷ es) = AllByRecursion (λ f. class_of e ≡ class_of f → e.time < f.time) es × ByTime es
 
 -- what can stand at a price when an order comes to it
 pub record Tradable (balance : ℕ) (run : List Entry) : Type 0 where
   pub few : length run ≤ 256
   pub small : balance < 100000
-  pub sized : All (λ e. (1 ≤ e.size) × (e.size ≤ 99999)) run
+  pub sized : AllByRecursion (λ e. (1 ≤ e.size) × (e.size ≤ 99999)) run
   pub timed : ByTime run
 
 -- what the entries with an id hold
@@ -84,4 +84,4 @@ abbrev pub RunsAreWhole : Type 0
 RunsAreWhole = (es : List Entry) → flat (runs es) ≡ es
 
 abbrev pub AllPrices : Type 0
-AllPrices = (rule : Sharing) → Lawful rule → (o : Routed) (national away : Option ℕ) (balance : ℕ) (rs : List (List Entry)) → All (Tradable balance) rs → Conserves rule o national away balance rs
+AllPrices = (rule : Sharing) → Lawful rule → (o : Routed) (national away : Option ℕ) (balance : ℕ) (rs : List (List Entry)) → AllByRecursion (Tradable balance) rs → Conserves rule o national away balance rs

@@ -1,6 +1,6 @@
 -- What every call keeps of the book. Assumes nothing.
 use Rattle.std.specs.Prelude.{◌≡◌, ℕ, ◌+◌, ◌<◌, ◌≤◌, true, false, List, [], ◌∷◌, length, nat_eq}
-use Rattle.std.specs.List.{AllByRecursion as All}
+use Rattle.std.specs.List.{AllByRecursion}
 use Rattle.sharing.specs.Sharing.{Sharing}
 use Rattle.sharing.specs.Totals.{count}
 use Rattle.rules.specs.declared.terms.Entry.{Entry}
@@ -19,7 +19,7 @@ use Rattle.rules.specs.Walk.{runs}
 -- each entry ranks before all behind it
 abbrev pub InRank : Side → List Entry → Type 0
 InRank s [] = Unit {0}
-InRank s (e ∷ es) = All (λ f. rank_before s (rank_of e) (rank_of f) ≡ true) es × InRank s es
+InRank s (e ∷ es) = AllByRecursion (λ f. rank_before s (rank_of e) (rank_of f) ≡ true) es × InRank s es
 
 -- sizes and prices in range, an id and a working time that were given out
 pub record GoodEntry (tick : ℕ) (n : Counters) (e : Entry) : Type 0 where
@@ -37,7 +37,7 @@ pub record GoodRow (tick : ℕ) (n : Counters) (r : Routed) : Type 0 where
 
 pub record GoodSide (tick : ℕ) (n : Counters) (most : ℕ) (s : Side) (es : List Entry) : Type 0 where
   pub ranked : InRank s es
-  pub good : All (GoodEntry tick n) es
+  pub good : AllByRecursion (GoodEntry tick n) es
   pub few : length es ≤ most
 
 -- how often an id stands in the book
@@ -52,7 +52,7 @@ pub record Sound (m : Model) : Type 0 where
   pub offers : GoodSide m.opening.tick m.counters m.opening.offer_places Sell m.offers
   pub away_bid : bad_price m.opening.tick m.away_bid ≡ false
   pub away_offer : bad_price m.opening.tick m.away_offer ≡ false
-  pub out : All (GoodRow m.opening.tick m.counters) m.out
+  pub out : AllByRecursion (GoodRow m.opening.tick m.counters) m.out
   pub few_out : length m.out ≤ 16
   -- an id stands once at most
   pub unique : (i : ℕ) → standing_with i m ≤ 1
@@ -74,4 +74,4 @@ pub record Kept : Type 0 where
 
 -- in a sound book what stands at each price meets what the laws of a price ask
 abbrev pub AlwaysTradable : Type 0
-AlwaysTradable = (m : Model) → Sound m → (s : Side) (balance : ℕ) → balance < 100000 → All (Tradable balance) (runs (entries s m))
+AlwaysTradable = (m : Model) → Sound m → (s : Side) (balance : ℕ) → balance < 100000 → AllByRecursion (Tradable balance) (runs (entries s m))

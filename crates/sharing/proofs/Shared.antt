@@ -1,6 +1,6 @@
 -- What every lawful sharing leaves: claims that add up, and that a rule may be asked about again. Assumes nothing.
 use Rattle.std.proofs.Common.{◌≡◌, ℕ, ◌+◌, ◌<◌, ◌≤◌, min, List, [], ◌∷◌, map, length, refl, ap, ◌∙◌, arith}
-use Rattle.std.specs.List.{AllByRecursion as All}
+use Rattle.std.specs.List.{AllByRecursion}
 use Rattle.std.proofs.lemmas.List.Elements.{length_all_zip}
 use Rattle.std.proofs.lemmas.List.{length-map}
 use Rattle.sharing.specs.declared.claims.Claim.{Claim}
@@ -8,7 +8,7 @@ use Rattle.sharing.specs.Claims.{size_of, allotment_of, with_allotment, allotted
 use Rattle.sharing.specs.Sharing.{Sharing, Lawful}
 use Rattle.sharing.specs.Totals.{total}
 
-all_allotted : (P : Claim → Type 0) → ((n : ℕ) (c : Claim) → P c → P (with_allotment n c)) → (ns : List ℕ) (cs : List Claim) → All P cs → All P (allotted ns cs)
+all_allotted : (P : Claim → Type 0) → ((n : ℕ) (c : Claim) → P c → P (with_allotment n c)) → (ns : List ℕ) (cs : List Claim) → AllByRecursion P cs → AllByRecursion P (allotted ns cs)
 all_allotted P keeps [] cs ps = ps
 all_allotted P keeps (n ∷ ns) [] ps = tt
 all_allotted P keeps (n ∷ ns) (c ∷ cs) ps = (keeps n c ps.0, all_allotted P keeps ns cs ps.1)

@@ -1,7 +1,7 @@
 -- Allotments written one after another, and sums over a list. Assumes nothing.
 use Rattle.std.specs.Prelude.{◌≡◌, ℕ, zero, suc, ◌+◌, ◌*◌, ◌<◌, ◌≤◌, List, [], ◌∷◌, ◌++◌, length, get_or, take, drop, set, slice_index, slice_index_or, slice_set, refl}
 use Rattle.std.proofs.Common.{sym, ap, ◌∙◌, add-one, arith}
-use Rattle.std.specs.List.{AllZip, AllByRecursion as All}
+use Rattle.std.specs.List.{AllZip, AllByRecursion}
 use Rattle.std.proofs.lemmas.List.{append-nil, take_all, take-append-drop, drop_all, take_more}
 use Rattle.sharing.specs.declared.claims.Claim.{Claim}
 use Rattle.sharing.specs.Claims.{with_allotment, allotted}
@@ -56,12 +56,12 @@ module _ {X : Type 0} (f : X → ℕ) where
   pub total_part : (xs : List X) (i : ℕ) → total f (take i xs) ≤ total f xs
   total_part xs i = omega (arith, total_append (take i xs) (drop i xs), ap (total f) (take-append-drop i xs))
 
-  pub total_few : (m : ℕ) (xs : List X) → All (λ x. f x ≤ m) xs → total f xs ≤ length xs * m
+  pub total_few : (m : ℕ) (xs : List X) → AllByRecursion (λ x. f x ≤ m) xs → total f xs ≤ length xs * m
   total_few m [] small = omega arith
   total_few m (x ∷ xs) small = omega (arith, small.0, total_few m xs small.1)
 
   -- one more, and still no more than all
-  pub total_upto : (m : ℕ) (xs : List X) (i : ℕ) (d : X) → i < length xs → All (λ x. f x ≤ m) xs → total f (take i xs) + f (slice_index_or xs i d) ≤ length xs * m
+  pub total_upto : (m : ℕ) (xs : List X) (i : ℕ) (d : X) → i < length xs → AllByRecursion (λ x. f x ≤ m) xs → total f (take i xs) + f (slice_index_or xs i d) ≤ length xs * m
   total_upto m xs i d in' small = omega (arith, total_more xs i d in', total_part xs (i + 1), total_few m xs small)
 
 pub each_refl : (ns : List ℕ) → AllZip ◌≤◌ ns ns

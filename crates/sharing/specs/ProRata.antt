@@ -4,7 +4,7 @@ use Rattle.std.proofs.Common.{sym, ◌∙◌, add-mul, mul-add, mul_comm, div-mu
 use Rattle.std.proofs.Math.Path.{ap, subst}
 use mathlib.Core.List.{map-map}
 use Rattle.std.proofs.Math.Nat.{div-le_of_le-mul, mul-lt-mul_of_pos_left}
-use Rattle.std.specs.List.{AllZip, AllByRecursion as All}
+use Rattle.std.specs.List.{AllZip, AllByRecursion}
 use Rattle.std.proofs.lemmas.Nat.{div-add-mod', mod_below, div_below}
 use Rattle.std.proofs.ByRecursion.{All-weaker, All-map}
 use Rattle.std.proofs.lemmas.List.{length-map, get_or-map}
@@ -17,7 +17,7 @@ use Rattle.sharing.specs.Totals.{one_if, total, count}
 use Rattle.sharing.specs.ToppedUp.{total_map, allotted_map, total_topped}
 use Rattle.sharing.specs.Allotted.{no_claim, allotted_to, unwritten, each_refl}
 
-pub each_map : {X : Type 0} (f g : X → ℕ) (xs : List X) → All (λ x. f x ≤ g x) xs → AllZip ◌≤◌ (map f xs) (map g xs)
+pub each_map : {X : Type 0} (f g : X → ℕ) (xs : List X) → AllByRecursion (λ x. f x ≤ g x) xs → AllZip ◌≤◌ (map f xs) (map g xs)
 each_map f g [] le = tt
 each_map f g (x ∷ xs) le = (le.0, each_map f g xs le.1)
 
@@ -64,10 +64,10 @@ part_read amount all cs ds i n whole state in' value =
     let read = unwritten (parts amount cs) cs ds i state in' (length_parts amount cs) in
     value ∙ (λ t. part amount (whole t) (size_of (read t))) ∙ sym (parts_at amount cs i in')
 
-pub sizes_small : (cs : List Claim) → All (λ c. (1 ≤ c.size) × (c.size ≤ 99999)) cs → All (λ c. size_of c ≤ 99999) cs
+pub sizes_small : (cs : List Claim) → AllByRecursion (λ c. (1 ≤ c.size) × (c.size ≤ 99999)) cs → AllByRecursion (λ c. size_of c ≤ 99999) cs
 sizes_small cs sized = All-weaker (λ c. (1 ≤ c.size) × (c.size ≤ 99999)) (λ c. size_of c ≤ 99999) (λ c s. s.1) cs sized
 
-pub parts_bounded : (amount : ℕ) (cs : List Claim) → All (λ c. (1 ≤ c.size) × (c.size ≤ 99999)) cs → All (λ n. n ≤ 99999) (parts amount cs)
+pub parts_bounded : (amount : ℕ) (cs : List Claim) → AllByRecursion (λ c. (1 ≤ c.size) × (c.size ≤ 99999)) cs → AllByRecursion (λ n. n ≤ 99999) (parts amount cs)
 parts_bounded amount cs sized =
     All-map (λ n. n ≤ 99999) (λ c. part amount (total size_of cs) c.size) cs
     (All-weaker (λ c. (1 ≤ c.size) × (c.size ≤ 99999)) (λ c. part amount (total size_of cs) c.size ≤ 99999) (λ c s. omega (arith, part_within amount (total size_of cs) c.size)) cs sized)
@@ -105,9 +105,9 @@ module _ (amount : ℕ) (cs : List Claim) (ok : Shareable amount cs) where
   pub parts_ascending : Ascending (allotted (parts amount cs) cs)
   parts_ascending = subst Ascending (sym (with_parts amount cs)) (ascending_map (floored amount cs) (λ c. refl) cs ok.timed)
 
-  pub parts_small : amount < total size_of cs → All (λ c. c.allotment < 99999) (allotted (parts amount cs) cs)
+  pub parts_small : amount < total size_of cs → AllByRecursion (λ c. c.allotment < 99999) (allotted (parts amount cs) cs)
   parts_small short =
-      subst (All (λ c. c.allotment < 99999)) (sym (with_parts amount cs))
+      subst (AllByRecursion (λ c. c.allotment < 99999)) (sym (with_parts amount cs))
       (All-map (λ c. c.allotment < 99999) (floored amount cs) cs
       (All-weaker (λ c. (1 ≤ c.size) × (c.size ≤ 99999)) (λ c. part amount (total size_of cs) c.size < 99999) (λ c sized. omega (arith, part_below amount (total size_of cs) c.size short sized.0)) cs ok.sized))
 

@@ -3,7 +3,7 @@ use Rattle.std.specs.Prelude.{◌≡◌, ℕ, zero, suc, ◌+◌, ◌<◌, min, 
 use Rattle.std.proofs.Math.Path.{sym, ap}
 use Rattle.std.proofs.Common.{◌∙◌, one-add, length-append, length-drop}
 use native.Mathlib.Omega.{arith}
-use Rattle.std.specs.List.{AllByRecursion as All}
+use Rattle.std.specs.List.{AllByRecursion}
 use Rattle.std.proofs.ByRecursion.{All-weaker, All-map}
 use Rattle.std.proofs.lemmas.List.{length-map, length-take-le, drop_more, get_or_at, get_or_default}
 use Rattle.std.proofs.lemmas.List.Edits.{map_over_more}
@@ -19,11 +19,11 @@ use Rattle.sharing.specs.Totals.{one_if, total, count}
 use Rattle.sharing.specs.Allotted.{no_claim}
 use Rattle.sharing.specs.Ordered.{total_all_inserted, ascending_distinct, strict_from_sorted}
 
-pub map_same : {X Y : Type 0} (f g : X → Y) (xs : List X) → All (λ x. f x ≡ g x) xs → map f xs ≡ map g xs
+pub map_same : {X Y : Type 0} (f g : X → Y) (xs : List X) → AllByRecursion (λ x. f x ≡ g x) xs → map f xs ≡ map g xs
 map_same f g [] same = refl
 map_same f g (x ∷ xs) same = λ t. same.0 t ∷ map_same f g xs same.1 t
 
-pub total_same : {X : Type 0} (f g : X → ℕ) (xs : List X) → All (λ x. f x ≡ g x) xs → total f xs ≡ total g xs
+pub total_same : {X : Type 0} (f g : X → ℕ) (xs : List X) → AllByRecursion (λ x. f x ≡ g x) xs → total f xs ≡ total g xs
 total_same f g [] same = refl
 total_same f g (x ∷ xs) same = λ t. same.0 t + total_same f g xs same.1 t
 
@@ -38,7 +38,7 @@ total_ones : {X : Type 0} (xs : List X) → total (λ _. 1) xs ≡ length xs
 total_ones [] = refl
 total_ones (x ∷ xs) = omega (arith, total_ones xs)
 
-all_unmap : {X Y : Type 0} (P : Y → Type 0) (f : X → Y) (xs : List X) → All P (map f xs) → All (λ x. P (f x)) xs
+all_unmap : {X Y : Type 0} (P : Y → Type 0) (f : X → Y) (xs : List X) → AllByRecursion P (map f xs) → AllByRecursion (λ x. P (f x)) xs
 all_unmap P f [] ps = tt
 all_unmap P f (x ∷ xs) ps = (ps.0, all_unmap P f xs ps.1)
 
@@ -83,7 +83,7 @@ module _ (ahead : Claim → Claim → Bool) where
   map_unbumped [] ds = refl
   map_unbumped (c ∷ cs) ds = λ t. unbumped c (before_it ds c) t ∷ map_unbumped cs ds t
 
-  none_before : (c : Claim) (cs : List Claim) → All (λ d. ahead d c ≡ false) cs → before_it cs c ≡ 0
+  none_before : (c : Claim) (cs : List Claim) → AllByRecursion (λ d. ahead d c ≡ false) cs → before_it cs c ≡ 0
   none_before c [] behind = refl
   none_before c (d ∷ ds) behind = let first = ap one_if behind.0 in omega (arith, none_before c ds behind.1)
 
