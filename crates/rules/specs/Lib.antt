@@ -15,4 +15,4 @@ pub mod Sides
 pub mod Sound
 pub mod Trade
 pub mod Walk
-pub mod EntryRankingLemmas
+pub mod TotalRanks

@@ -1,7 +1,7 @@
 // The rank of entries on a side: better price, Market Orders first, customers first, earlier time.
 ghost use Rattle.std.specs.Prelude.{◌≡◌, ℕ};
 ghost use Rattle.rules.specs.Ranks.{is_customer, class_of, rank_of, rank_before};
-ghost use Rattle.rules.specs.EntryRankingLemmas.{same_price, same_class, same_time};
+ghost use Rattle.rules.specs.TotalRanks.{same_price, same_class, same_time};
 ghost use Rattle.std.proofs.Common.{rules};
 
 use crate::terms::{Entry, Kind, Side};

@@ -1,3 +1,4 @@
+-- Two ranks of which neither precedes are one: why the rank of entries is a total order. Assumes nothing.
 use Rattle.std.specs.Prelude.{◌≡◌, ℕ, false}
 use Rattle.std.proofs.Common.{arith}
 use Rattle.std.proofs.lemmas.Bool.Decides.{nat_tests}
