@@ -78,11 +78,18 @@ module _ (named : Line → Bool) (mine : Entry → Bool) (agree : Agree named mi
         | false ↦ omega (arith, fills_once k test ns es)
       ]
 
-  step_once : (k : Step) (test : Entry → Bool) (rule : Sharing) (amount : ℕ) (d : Deal) → count named (step k test rule amount d).lines ≤ count named d.lines + count (λ e. test e && mine e) d.run
+  step_picked : (k : Step) (test : Entry → Bool) (rule : Sharing) (amount : ℕ) (d : Deal) → count named (step k test rule amount d).lines ≤ count named d.lines + count (λ e. test e && mine e) d.run
   unfolding step
-  step_once k test rule amount d =
+  step_picked k test rule amount d =
       let ns = rule.allotments amount (map claim_of (filter test d.run)) in
       omega (arith, total_append (λ l. one_if (named l)) d.lines (fills k (spread test ns d.run) d.run), fills_once k test ns d.run)
+
+-- the lines that name an id, and the entries with it
+by_id : (i : ℕ) → Agree (names i) (λ e. eqb e.id i)
+by_id i = record { fill = λ e n k. refl; barred = λ e. refl; steady = λ n e. refl }
+
+pub step_once : (i : ℕ) (k : Step) (test : Entry → Bool) (rule : Sharing) (amount : ℕ) (d : Deal) → count (names i) (step k test rule amount d).lines ≤ count (names i) d.lines + count (λ e. test e && eqb e.id i) d.run
+step_once i = step_picked (names i) (λ e. eqb e.id i) (by_id i)
 
 into_whole : (e : Entry) (rs : List (List Entry)) → flat (into_runs e rs) ≡ e ∷ flat rs
 into_whole e [] = refl
@@ -129,17 +136,17 @@ count_classes mine [] = refl
 count_classes mine (e ∷ es) = omega (arith, one_of_four e.market (is_customer e.kind) (mine e), count_classes mine es)
 
 module _ (named : Line → Bool) (mine : Entry → Bool) (agree : Agree named mine) where
-  makers_once : (rule : Sharing) (at_best : Bool) (directed : Option ℕ) (d : Deal) → count named (makers rule at_best directed d).lines ≤ count named d.lines + count (of_class mine 4) d.run
+  makers_picked : (rule : Sharing) (at_best : Bool) (directed : Option ℕ) (d : Deal) → count named (makers rule at_best directed d).lines ≤ count named d.lines + count (of_class mine 4) d.run
   unfolding makers
-  makers_once rule at_best directed d =
+  makers_picked rule at_best directed d =
       let group = in_group directed d.run in
       let others : Entry → Bool = λ e. in_class 4 e && not (group e) in
       let fourth = step GuaranteedQuotes group rule (for_group directed d) d in
       cond_both (acts at_best directed d) (step OtherInterest others rule fourth.balance fourth) (step OtherInterest (in_class 4) rule d.balance d) (λ e. count named e.lines ≤ count named d.lines + count (of_class mine 4) d.run)
       (λ _.
       let fewer_left = count_left (λ e. others e && mine e) (λ n e. λ t. (in_class 4 e && not (group_steady directed d.run n e t)) && agree.steady n e t) (step_leaves GuaranteedQuotes group rule (for_group directed d) d) in
-      omega (arith, step_once named mine agree OtherInterest others rule fourth.balance fourth, step_once named mine agree GuaranteedQuotes group rule (for_group directed d) d, fewer_left, count_two (in_class 4) group mine (group_class directed d.run) d.run))
-      (λ _. step_once named mine agree OtherInterest (in_class 4) rule d.balance d)
+      omega (arith, step_picked named mine agree OtherInterest others rule fourth.balance fourth, step_picked named mine agree GuaranteedQuotes group rule (for_group directed d) d, fewer_left, count_two (in_class 4) group mine (group_class directed d.run) d.run))
+      (λ _. step_picked named mine agree OtherInterest (in_class 4) rule d.balance d)
 
   count_barred : (barred : Entry → Bool) (es : List Entry) → count named (map barred_line (filter barred es)) + count mine (filter (λ e. not (barred e)) es) ≡ count mine es
   count_barred barred [] = refl
@@ -150,6 +157,9 @@ module _ (named : Line → Bool) (mine : Entry → Bool) (agree : Agree named mi
         | true ↦ omega arith
         | false ↦ omega arith
       ]
+
+pub makers_once : (i : ℕ) (rule : Sharing) (at_best : Bool) (directed : Option ℕ) (d : Deal) → count (names i) (makers rule at_best directed d).lines ≤ count (names i) d.lines + count (of_class (λ e. eqb e.id i) 4) d.run
+makers_once i = makers_picked (names i) (λ e. eqb e.id i) (by_id i)
 
 count_all : {X : Type 0} (xs : List X) → count (λ _. true) xs ≡ length xs
 count_all [] = refl
@@ -185,10 +195,10 @@ module _ (rule : Sharing) (o : Routed) (at_best : Bool) (balance : ℕ) (run : L
     level_lines : count named (level rule o at_best balance run).lines ≤ count named e0.lines + count mine e0.run
     unfolding level
     level_lines =
-        let s1 = step_once named mine agree CustomerMarketOrders (in_class 1) by_time e0.balance e0 in
-        let s2 = step_once named mine agree OtherMarketOrders (in_class 2) rule e1.balance e1 in
-        let s3 = step_once named mine agree CustomerLimitOrders (in_class 3) by_time e2.balance e2 in
-        let s4 = makers_once named mine agree rule at_best o.directed e3 in
+        let s1 = step_picked named mine agree CustomerMarketOrders (in_class 1) by_time e0.balance e0 in
+        let s2 = step_picked named mine agree OtherMarketOrders (in_class 2) rule e1.balance e1 in
+        let s3 = step_picked named mine agree CustomerLimitOrders (in_class 3) by_time e2.balance e2 in
+        let s4 = makers_picked named mine agree rule at_best o.directed e3 in
         let c2 = count_left (of_class mine 2) (λ n e. ap (λ b. in_class 2 e && b) (agree.steady n e)) to_1 in
         let c3 = count_left (of_class mine 3) (λ n e. ap (λ b. in_class 3 e && b) (agree.steady n e)) to_2 in
         let c4 = count_left (of_class mine 4) (λ n e. ap (λ b. in_class 4 e && b) (agree.steady n e)) to_3 in
@@ -199,7 +209,7 @@ module _ (rule : Sharing) (o : Routed) (at_best : Bool) (balance : ℕ) (run : L
     level_picked = omega (arith, level_lines, count_barred named mine agree (is_barred o.firm o.own_firm_mark) run)
 
   pub level_once : (i : ℕ) → count (names i) (level rule o at_best balance run).lines ≤ count (λ e. eqb e.id i) run
-  level_once i = level_picked (names i) (λ e. eqb e.id i) (record { fill = λ e n k. refl; barred = λ e. refl; steady = λ n e. refl })
+  level_once i = level_picked (names i) (λ e. eqb e.id i) (by_id i)
 
   -- no more lines than entries
   pub level_short : length (level rule o at_best balance run).lines ≤ length run
