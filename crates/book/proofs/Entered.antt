@@ -36,10 +36,10 @@ module _ (c : Entering) (m : Model) (all : AllByRecursion (λ k. k.0 ≡ false) 
   sheet_room = ltb-false c.sheet (longer_side m) all.1.0
 
 module _ (rule : Sharing) (c : Entering) (m : Model) (going : Routed) (cap room : ℕ)
-    (CappedAs : cap ≡ unwrap_or (cap_of c.order m.opening.tick (reference c.order m)) 0) (goes_as : going ≡ setting_out c.order cap)
+    (capped_as : cap ≡ unwrap_or (cap_of c.order m.opening.tick (reference c.order m)) 0) (goes_as : going ≡ setting_out c.order cap)
     (room_as : room ≡ available going (away (other_side going.side) m) (entries (other_side going.side) m)) where
   pub going_is : going ≡ capped c.order m
-  going_is = goes_as ∙ ap (setting_out c.order) CappedAs
+  going_is = goes_as ∙ ap (setting_out c.order) capped_as
 
   missed_as : least_missed c.order m ≡ ltb room c.order.least
   missed_as = ap (λ n. ltb n c.order.least) (sym (room_as ∙ ap (λ (o : Routed). available o (away (other_side o.side) m) (entries (other_side o.side) m)) going_is))

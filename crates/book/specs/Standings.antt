@@ -1,5 +1,5 @@
 -- Where an order is, by its place. Assumes nothing.
-use Rattle.std.specs.Prelude.{◌≡◌, ℕ, ◌<◌, cond, not, List, length, get_or, Some, None, Ok, Err, Option, Result, ◌==◌, slice_index_or}
+use Rattle.std.specs.Prelude.{◌≡◌, ℕ, ◌<◌, cond, not, List, length, Some, None, Ok, Err, Option, Result, ◌==◌, slice_index_or}
 use Rattle.rules.specs.declared.numbers.Refusal.{Refusal}
 use Rattle.rules.specs.declared.numbers.Refusal.TheVariants.{NeitherRestingNorOut, AnotherFirms, OutOnRoute}
 use Rattle.rules.specs.declared.terms.Entry.{Entry}
@@ -24,7 +24,7 @@ Found {X} id i xs (Some k) = (k < length xs) × ((d : X) → found_in id i xs �
 
 -- where the order with an id is
 abbrev pub Stands : ℕ → Model → Standing → Type 0
-Stands i m (Resting s k) = (k < length (entries s m)) × ((d : Entry) → ((get_or (entries s m) k d).id ≡ i) × (standing i m ≡ resting s (slice_index_or (entries s m) k d)))
+Stands i m (Resting s k) = (k < length (entries s m)) × ((d : Entry) → ((slice_index_or (entries s m) k d).id ≡ i) × (standing i m ≡ resting s (slice_index_or (entries s m) k d)))
 Stands i m (Out k) = (k < length m.out) × ((d : Routed) → standing i m ≡ out_on_route (slice_index_or m.out k d))
 Stands i m Nowhere = standing i m ≡ nowhere
 

@@ -70,10 +70,10 @@ fn set_out<R: Rule>(
     requires sound { Sound (model state.old) }
     requires fits { Fits state.old }
     requires accepted { AllByRecursion (λ k. k.0 ≡ false) (entry_checks (record { order = order.now; tape = length tape.old; sheet = length sheet.old }) (model state.old)) }
-    ensures after { model state.new ≡ (carried (R.meaning rule.now) (record { order = order.entry.now; tape = length tape.old; sheet = length sheet.old }) (model state.old)).after }
-    ensures tape { tape.new ≡ written 0 (carried (R.meaning rule.now) (record { order = order.entry.now; tape = length tape.old; sheet = length sheet.old }) (model state.old)).lines tape.old }
-    ensures lines { result.lines ≡ (carried (R.meaning rule.now) (record { order = order.entry.now; tape = length tape.old; sheet = length sheet.old }) (model state.old)).answer }
-    ensures routed { result.routed ≡ is_some (carried (R.meaning rule.now) (record { order = order.entry.now; tape = length tape.old; sheet = length sheet.old }) (model state.old)).ticket }
+    ensures after { model state.new ≡ (carried (R.meaning rule.now) (record { order = order.now; tape = length tape.old; sheet = length sheet.old }) (model state.old)).after }
+    ensures tape { tape.new ≡ written 0 (carried (R.meaning rule.now) (record { order = order.now; tape = length tape.old; sheet = length sheet.old }) (model state.old)).lines tape.old }
+    ensures lines { result.lines ≡ (carried (R.meaning rule.now) (record { order = order.now; tape = length tape.old; sheet = length sheet.old }) (model state.old)).answer }
+    ensures routed { result.routed ≡ is_some (carried (R.meaning rule.now) (record { order = order.now; tape = length tape.old; sheet = length sheet.old }) (model state.old)).ticket }
     ensures sheet { length sheet.new ≡ length sheet.old }
     ensures fits { Fits state.new }
     ensures bid_lender { state.new.bids.ghost_name ≡ state.old.bids.ghost_name }
@@ -108,8 +108,8 @@ pub(crate) fn enter<R: Rule>(
 ) -> Result<Traded, Refusal>
     requires sound { Sound (model state.old) }
     requires fits { Fits state.old }
-    ensures outcome { Settles (entry_of (R.meaning rule.now) (record { order = order.entry.now; tape = length tape.old; sheet = length sheet.old }) (model state.old)) (model state.old) result (model state.new) (λ d a. (a.lines ≡ d.answer) × (a.routed ≡ is_some d.ticket)) }
-    ensures tape { tape.new ≡ taped (entry_of (R.meaning rule.now) (record { order = order.entry.now; tape = length tape.old; sheet = length sheet.old }) (model state.old)) tape.old }
+    ensures outcome { Settles (entry_of (R.meaning rule.now) (record { order = order.now; tape = length tape.old; sheet = length sheet.old }) (model state.old)) (model state.old) result (model state.new) (λ d a. (a.lines ≡ d.answer) × (a.routed ≡ is_some d.ticket)) }
+    ensures tape { tape.new ≡ taped (entry_of (R.meaning rule.now) (record { order = order.now; tape = length tape.old; sheet = length sheet.old }) (model state.old)) tape.old }
     ensures sheet { is_ok result ≡ false → sheet.new ≡ sheet.old }
     ensures length { length sheet.new ≡ length sheet.old }
     ensures fits { Fits state.new }

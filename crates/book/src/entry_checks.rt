@@ -69,7 +69,7 @@ fn no_reference(state: &State, order: &Order) -> bool
 pub(crate) fn refusal_of(state: &State, order: &Order, tape: usize, sheet: usize) -> Option<Refusal>
     requires fits { Fits state.now }
     requires tick { 0 < state.now.tick }
-    ensures { result ≡ first_refusal (entry_checks (record { order = order.entry.now; tape = tape; sheet = sheet }) (model state.now)) }
+    ensures { result ≡ first_refusal (entry_checks (record { order = order.now; tape = tape; sheet = sheet }) (model state.now)) }
 {
     let longer = longer_side(state);
     if tape <= longer {

@@ -142,11 +142,11 @@ impl<'a> Book<'a> {
         sheet: &mut [Claim],
         tape: &mut [Line],
     ) -> Result<Accepted, Refusal>
-        ensures outcome { Settles (entry_of (R.meaning rule.now) (record { order = order.entry.now; tape = length tape.old; sheet = length sheet.old }) (model self.old.state)) (model self.old.state) result (model self.new.state) (λ d a. (a.lines ≡ d.answer) × Gives self.old.state.series d.ticket a.ticket) }
-        ensures tape { tape.new ≡ taped (entry_of (R.meaning rule.now) (record { order = order.entry.now; tape = length tape.old; sheet = length sheet.old }) (model self.old.state)) tape.old }
+        ensures outcome { Settles (entry_of (R.meaning rule.now) (record { order = order.now; tape = length tape.old; sheet = length sheet.old }) (model self.old.state)) (model self.old.state) result (model self.new.state) (λ d a. (a.lines ≡ d.answer) × Gives self.old.state.series d.ticket a.ticket) }
+        ensures tape { tape.new ≡ taped (entry_of (R.meaning rule.now) (record { order = order.now; tape = length tape.old; sheet = length sheet.old }) (model self.old.state)) tape.old }
         ensures sheet { is_ok result ≡ false → sheet.new ≡ sheet.old }
         ensures length { length sheet.new ≡ length sheet.old }
-        ensures lawful { (keeps : Lawful (R.meaning rule.now)) → StaysLawful (model self.old.state) (enters (record { shares = R.meaning rule.now; keeps = keeps }) (record { order = order.entry.now; tape = length tape.old; sheet = length sheet.old })) }
+        ensures lawful { (keeps : Lawful (R.meaning rule.now)) → StaysLawful (model self.old.state) (enters (record { shares = R.meaning rule.now; keeps = keeps }) (record { order = order.now; tape = length tape.old; sheet = length sheet.old })) }
     {
         let series = self.state.series;
         match enter(&mut self.state, rule, order, sheet, tape) {

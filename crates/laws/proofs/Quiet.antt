@@ -187,10 +187,6 @@ with_twice : (s : Side) (es fs : List Entry) (m : Model) → with_entries s es (
 with_twice Buy es fs m = refl
 with_twice Sell es fs m = refl
 
--- what a size change adds and takes off
-resized_account : (entered added here away cancelled taken out rest held n : ℕ) → entered + added ≡ ((((here + away) + cancelled) + taken) + held) + out → rest ≡ n → entered + (added + (n - held)) ≡ ((((here + away) + cancelled) + (taken + (held - n))) + rest) + out
-resized_account entered added here away cancelled taken out rest held n balance same = omega arith
-
 module _ (c : Opening) (rs : List Told) (m : Model) (tied : Tied c rs m) (u : Resizing) (s : Side) (e : Entry) (found : entry_with u.id (entries s m) ≡ Some e) where
   abbrev resize_told : Told
   resize_told = carried_out (resizes u) u.size []
@@ -221,21 +217,15 @@ module _ (c : Opening) (rs : List Told) (m : Model) (tied : Tied c rs m) (u : Re
       let minus = ap (λ b. cond b (n - u.size) 0) same in
       let old = ap (λ b. cond b e.size 0) same in
       let new = ap (λ b. cond b u.size 0) same in
-      let now_rests : resting i after ≡ u.size = omega (arith, moved i) in
-      let books = resized_account a.entered a.added a.traded_here a.traded_away a.cancelled a.taken_off a.out (resting i after) n u.size (omega (arith, tied.balances i, held, rest)) now_rests in
-      (λ t. a.entered + (a.added + plus t)) ∙ books ∙ (λ t. ((((a.traded_here + a.traded_away) + a.cancelled) + (a.taken_off + sym minus t)) + resting i after) + a.out))
+      omega (arith, tied.balances i, held, rest, plus, minus, old, new, moved i))
       (λ differ.
       let n = holds a in
       let plus = ap (λ b. cond b (u.size - n) 0) differ in
       let minus = ap (λ b. cond b (n - u.size) 0) differ in
       let old = ap (λ b. cond b e.size 0) differ in
       let new = ap (λ b. cond b u.size 0) differ in
-      let same_rest : resting i after ≡ resting i m = omega (arith, moved i) in
-      (λ t. a.entered + (a.added + plus t)) ∙ unmoved a.entered a.added a.traded_here a.traded_away a.cancelled a.taken_off a.out (resting i m) (resting i after) (tied.balances i) same_rest ∙ (λ t. ((((a.traded_here + a.traded_away) + a.cancelled) + (a.taken_off + sym minus t)) + resting i after) + a.out))
+      omega (arith, tied.balances i, plus, minus, old, new, moved i))
       (cases_Bool (eqb u.id i))
-    where
-      unmoved : (entered added here away cancelled taken out rest rest' : ℕ) → entered + added ≡ ((((here + away) + cancelled) + taken) + rest) + out → rest' ≡ rest → entered + (added + 0) ≡ ((((here + away) + cancelled) + (taken + 0)) + rest') + out
-      unmoved entered added here away cancelled taken out rest rest' balance same = omega arith
 
   resized_fresh : (i : ℕ) → m.counters.last_id < i → (arrived i (resize_told ∷ rs) ≡ None) × ((account i (resize_told ∷ rs)).entered ≡ 0) × ((account i (resize_told ∷ rs)).added ≡ 0)
   resized_fresh i above =

@@ -9,7 +9,7 @@ mod tickets;
 use crate::desk::{Desk, give_all_back, make, show_end};
 use crate::printing::show_refusal;
 use crate::reading::{Opening, read_call, read_opening};
-use crate::tickets::{Held, Stop, leave};
+use crate::tickets::{Held, Stop, leave_all};
 use book::{Book, check_opening};
 use rules::{Entry, Kind};
 use std::alloc::Global;
@@ -53,7 +53,7 @@ fn end(held: Vec<Held>, res: Result<(), Stop>) -> Result<(), Stop> {
         held.destroy_empty();
         res
     } else {
-        leave(held);
+        leave_all(held);
         res?;
         Err(Stop::StillHeld)
     }

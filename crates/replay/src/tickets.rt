@@ -26,8 +26,12 @@ impl From<io::Error> for Stop {
     }
 }
 
-// A ticket cannot be let go, but where the program stops, those that it holds go with it.
-pub fn leave<T>(held: T) {
+// A ticket cannot be let go. Where the program stops before its end, those that it holds go with it, by these two alone.
+pub fn leave(ticket: Ticket) {
+    let _left = unsafe { ManuallyDrop::new_unchecked(ticket) };
+}
+
+pub fn leave_all(held: Vec<Held>) {
     let _left = unsafe { ManuallyDrop::new_unchecked(held) };
 }
 
@@ -44,7 +48,12 @@ pub fn keep(held: &mut Vec<Held>, one: Held) -> Result<(), Stop> {
     match held.push(one) {
         Ok(()) => Ok(()),
         Err(refused) => {
-            leave(refused.value);
+            let Held {
+                id: _,
+                side: _,
+                ticket,
+            } = refused.value;
+            leave(ticket);
             Err(Stop::Left)
         }
     }
