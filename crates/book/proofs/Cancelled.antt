@@ -1,5 +1,5 @@
 -- What a cancel comes to, by where the order is. Assumes nothing.
-use Rattle.std.proofs.Common.{◌≡◌, ℕ, Bool, true, false, cond, not, eqb, List, [], is_some, Some, None, Ok, Err, unwrap_or, sym, refl, ap, ◌∙◌, subst}
+use Rattle.std.proofs.Common.{◌≡◌, ℕ, Bool, true, false, cond, not, eqb, [], is_some, Some, None, Ok, Err, unwrap_or, sym, refl, ap, ◌∙◌, subst}
 use Rattle.std.specs.List.{remove}
 use Rattle.std.proofs.lemmas.Bool.{false≢true, cond-true, cond-false, eq-eqb, ne_eqb, not_from_true}
 use Rattle.rules.specs.declared.numbers.Refusal.{Refusal}
@@ -14,10 +14,9 @@ use Rattle.rules.specs.Outcome.Standing.{resting, out_on_route, nowhere}
 use Rattle.rules.specs.Sound.{Sound}
 use Rattle.rules.proofs.CallsKeep.{side_once}
 use Rattle.book.specs.Answers.{Settles}
-use Rattle.book.specs.Standings.{entry_id, not_its, Its}
+use Rattle.book.specs.Standings.{not_its, Its}
 use Rattle.book.specs.declared.find.Own.{Own}
 use Rattle.book.proofs.Finding.{removed_others}
-use Rattle.book.proofs.Edited.{opening_with}
 use Rattle.book.proofs.Standings.{no_entry}
 
 -- a call that answers a number is refused, or answers that of its outcome
@@ -68,7 +67,7 @@ module _ (c : Cancelling) (m : Model) where
 
 -- in a sound book the entry at the place that was found is the one with the id
 pub without_found : (i firm : ℕ) (m : Model) (p : Own) → Sound m → Its i firm m p → remove (entries p.side m) p.at ≡ without_entry i (entries p.side m)
-without_found i firm m p sound its = removed_others entry_id i (entries p.side m) p.at no_entry its.within (sym (ap entry_id (its.entry no_entry)) ∙ its.id) (side_once p.side m sound i)
+without_found i firm m p sound its = removed_others (λ e. e.id) i (entries p.side m) p.at no_entry its.within (sym (ap (λ (e : Entry). e.id) (its.entry no_entry)) ∙ its.id) (side_once p.side m sound i)
 
 -- a firm's entry is off the book, and its size answered
 module _ (c : Cancelling) (m n : Model) (p : Own) (sound : Sound m) (its : Its c.id c.firm m p) (is : n ≡ with_entries p.side (remove (entries p.side m) p.at) m) where
@@ -76,7 +75,3 @@ module _ (c : Cancelling) (m n : Model) (p : Own) (sound : Sound m) (its : Its c
   settles firm =
       let gone = ap (λ es. with_entries p.side es m) (without_found c.id c.firm m p sound its) in
       answers (cancel_of c m) (record { answer = p.entry.size; lines = []; after = with_entries p.side (without_entry c.id (entries p.side m)) m; ticket = None }) m n p.entry.size (cancelled c m firm p.side p.entry its.stands its.firm_is) (is ∙ gone) refl
-
--- the book is of the same opening after a change to a side
-pub same_opening : (s : Side) (es : List Entry) (m n : Model) → n ≡ with_entries s es m → n.opening ≡ m.opening
-same_opening s es m n is = ap (λ (x : Model). x.opening) is ∙ opening_with s es m

@@ -1,8 +1,7 @@
 -- What an order that has traded comes to. Assumes nothing.
-use Rattle.std.proofs.Common.{◌≡◌, ℕ, ◌+◌, ◌<◌, ◌≤◌, Bool, true, false, cond, ◌&&◌, eqb, leb, List, length, set, is_some, sym, refl, ap, ◌∙◌, subst, true≢false, arith}
+use Rattle.std.proofs.Common.{◌≡◌, ℕ, ◌+◌, ◌<◌, ◌≤◌, Bool, true, false, cond, ◌&&◌, eqb, leb, [], ◌∷◌, ◌++◌, length, is_some, sym, refl, ap, ◌∙◌, subst, true≢false, arith}
 use Rattle.std.proofs.lemmas.List.{length_push}
 use Rattle.std.proofs.lemmas.Bool.{leb-false}
-use Rattle.ranked.specs.Ranked.{ahead, Sorted}
 use Rattle.sharing.specs.Sharing.{Sharing}
 use Rattle.rules.specs.declared.numbers.Cause.TheVariants.{Immediate, AwayPrice, NoPlaceOnReturn}
 use Rattle.rules.specs.declared.tape.Line.{Line}
@@ -13,18 +12,17 @@ use Rattle.rules.specs.Caps.{is_ioc}
 use Rattle.rules.specs.Level.{Deal}
 use Rattle.rules.specs.Model.{Model, entries, away, places, with_entries}
 use Rattle.rules.specs.Outcome.{longer_side}
-use Rattle.rules.specs.Ranks.{rank_of, rank_before}
 use Rattle.rules.specs.Sides.{other_side}
 use Rattle.rules.specs.Sound.{Sound}
 use Rattle.rules.specs.Trade.{Ending, away_in_cap, ending, end_line, ended, ticket_of, traded, finished, trade}
 use Rattle.rules.specs.Trade.Ending.{is_filled, is_routed, is_cancelled, rests}
 use Rattle.rules.proofs.CallsKeep.{same_book}
 use Rattle.rules.proofs.Moves.{good_side}
-use Rattle.matching.specs.Tapes.{written}
-use Rattle.matching.proofs.Written.{written_more}
+use Rattle.matching.specs.Tapes.{Writes}
+use Rattle.matching.specs.declared.lent.Lent.{Lent}
+use Rattle.matching.proofs.Written.{writes_twice}
 use Rattle.book.specs.Endings.{routes}
 use Rattle.book.proofs.Meets.{traded_short}
-use Rattle.book.proofs.Puts.{in_rank_sorted}
 
 abbrev stays : Ending → Bool
 stays is_filled = false
@@ -73,10 +71,6 @@ places_within : (s : Side) (m : Model) → places s m ≤ longer_side m
 places_within Buy m = omega arith
 places_within Sell m = omega arith
 
-places_few : (s : Side) (m : Model) → Sound m → places s m ≤ 256
-places_few Buy m sound = sound.bid_places
-places_few Sell m sound = sound.offer_places
-
 ticket_is : (o : Routed) (e : Ending) → routes e ≡ is_some (ticket_of o e)
 ticket_is o is_filled = refl
 ticket_is o is_routed = refl
@@ -95,19 +89,11 @@ module _ (rule : Sharing) (o : Routed) (m : Model) where
   comes_to may = ending o may deal.balance left
 
   -- the lines have places
-  pub lines_within : {n : ℕ} → Sound m → n ≡ length deal.lines → n ≤ longer_side m
-  lines_within sound long = omega (arith, long, traded_short rule o m, (good_side (other_side o.side) m sound).few, places_within (other_side o.side) m)
-
-  pub lines_few : {n : ℕ} → Sound m → n ≡ length deal.lines → n ≤ 256
-  lines_few sound long = omega (arith, long, traded_short rule o m, (good_side (other_side o.side) m sound).few, places_few (other_side o.side) m sound)
+  pub lines_within : Sound m → length deal.lines ≤ longer_side m
+  lines_within sound = omega (arith, traded_short rule o m, (good_side (other_side o.side) m sound).few, places_within (other_side o.side) m)
 
   -- the book that the trades left
   module _ {m' : Model} (same : m' ≡ left) where
-    pub left_sorted : Sound m → Sorted (ahead rank_before (λ _. rank_of) o.side) (entries o.side m')
-    left_sorted sound =
-        subst (Sorted (ahead rank_before (λ _. rank_of) o.side)) (sym (ap (entries o.side) same ∙ (same_book o.side deal.run m).0))
-        (in_rank_sorted o.side (entries o.side m) (good_side o.side m sound).ranked)
-
     pub left_time : m'.counters.last_time ≡ m.counters.last_time
     left_time = ap (λ k. k.counters.last_time) same ∙ ap (λ k. k.last_time) (same_book o.side deal.run m).3
 
@@ -126,13 +112,8 @@ module _ (rule : Sharing) (o : Routed) (m : Model) where
       unfolding trade finished
       trade_routed out = out ∙ ap routes end_is ∙ ticket_is o (comes_to may)
 
-      pub trade_lines : {n : ℕ} → n ≡ length deal.lines → n + 1 ≡ length (trade rule o may m).lines
+      pub trade_writes : {l : Line} {a b' c' : Lent} → Writes deal.lines a b' → l ≡ end_line o b e → Writes (l ∷ []) b' c' → a.lines + length deal.lines + 1 ≤ length a.tape.now → Writes (trade rule o may m).lines a c'
       unfolding trade finished
-      trade_lines long = ap (λ k. k + 1) long ∙ sym (length_push deal.lines (end_line o deal.balance (comes_to may)))
-
-      pub trade_tape : {n : ℕ} {l : Line} {tape' : List Line} (tape : List Line) → n ≡ length deal.lines → n < length tape → tape' ≡ written 0 deal.lines tape → l ≡ end_line o b e → set tape' n l ≡ written 0 (trade rule o may m).lines tape
-      unfolding trade finished
-      trade_tape {n} {l} {tape'} tape long room told last =
-          let there : n ≡ 0 + length deal.lines = omega (arith, long) in
-          (λ t. set (told t) (there t) ((last ∙ (λ u. end_line o (spent u) (end_is u))) t))
-          ∙ written_more 0 deal.lines tape (omega arith) (end_line o deal.balance (comes_to may)) (omega arith)
+      trade_writes {l} {a} {b'} {c'} first told last room =
+          subst (λ x. Writes (deal.lines ++ x ∷ []) a c') (told ∙ (λ t. end_line o (spent t) (end_is t)))
+          (writes_twice first last (omega (arith, room, length_push deal.lines l)))

@@ -1,10 +1,9 @@
 -- An entry that no check refuses: what it may ask of trading, and what it comes to. Assumes nothing.
-use Rattle.std.proofs.Common.{◌≡◌, ℕ, ◌+◌, ◌<◌, ◌≤◌, Bool, false, ltb, List, [], ◌∷◌, length, set, is_some, Some, None, unwrap_or, sym, refl, ap, ◌∙◌, ⊎_elim, arith}
+use Rattle.std.proofs.Common.{◌≡◌, ℕ, ◌+◌, ◌<◌, ◌≤◌, Bool, false, ltb, List, [], ◌∷◌, length, is_some, Some, unwrap_or, sym, refl, ap, ◌∙◌, ⊎_elim}
 use Rattle.std.specs.List.{AllByRecursion}
 use Rattle.std.proofs.lemmas.Bool.{false≢true, cases_Bool, cond-true, cond-false, lt-ltb, le-ltb, ltb-false}
 use Rattle.sharing.specs.Sharing.{Sharing}
 use Rattle.rules.specs.declared.numbers.Refusal.{Refusal}
-use Rattle.rules.specs.declared.tape.Line.{Line}
 use Rattle.rules.specs.declared.terms.Routed.{Routed}
 use Rattle.rules.specs.Calls.{Entering, reference, entry_checks, setting_out, capped, least_missed, missed, entry_of}
 use Rattle.rules.specs.Caps.{cap_of}
@@ -14,8 +13,6 @@ use Rattle.rules.specs.Outcome.Outcome.{refused, done}
 use Rattle.rules.specs.Sides.{other_side}
 use Rattle.rules.specs.Trade.{finished, trade}
 use Rattle.rules.specs.Walk.{available}
-use Rattle.matching.specs.Tapes.{written}
-use Rattle.matching.proofs.Written.{written_none, written_more}
 use Rattle.book.specs.Entries.{carried}
 use Rattle.book.specs.Refusals.{first_refusal}
 
@@ -23,10 +20,6 @@ use Rattle.book.specs.Refusals.{first_refusal}
 pub trade_answer : (rule : Sharing) (o : Routed) (may : Bool) (m : Model) → length (trade rule o may m).lines ≡ (trade rule o may m).answer
 unfolding trade finished
 trade_answer rule o may m = refl
-
--- one line at the front of a tape
-pub written_one : (l : Line) (tape : List Line) → 0 < length tape → set tape 0 l ≡ written 0 (l ∷ []) tape
-written_one l tape some = ap (λ x. set x 0 l) (written_none 0 tape) ∙ written_more 0 [] tape (omega arith) l (omega arith)
 
 module _ (c : Entering) (m : Model) (all : AllByRecursion (λ k. k.0 ≡ false) (entry_checks c m)) where
   pub tape_room : longer_side m + 1 ≤ c.tape
@@ -44,10 +37,10 @@ module _ (rule : Sharing) (c : Entering) (m : Model) (going : Routed) (cap room 
   missed_as : least_missed c.order m ≡ ltb room c.order.least
   missed_as = ap (λ n. ltb n c.order.least) (sym (room_as ∙ ap (λ (o : Routed). available o (away (other_side o.side) m) (entries (other_side o.side) m)) going_is))
 
-  pub carried_missed : room < c.order.least → carried rule c m ≡ missed c.order (with_last_id c.order.id m)
+  pub carried_missed : room < c.order.least → carried rule c.order m ≡ missed c.order (with_last_id c.order.id m)
   carried_missed short = cond-true (least_missed c.order m) (missed c.order (with_last_id c.order.id m)) (trade rule (capped c.order m) c.order.may_route (with_last_id c.order.id m)) (missed_as ∙ lt-ltb room c.order.least short)
 
-  pub carried_trade : c.order.least ≤ room → carried rule c m ≡ trade rule going c.order.may_route (with_last_id c.order.id m)
+  pub carried_trade : c.order.least ≤ room → carried rule c.order m ≡ trade rule going c.order.may_route (with_last_id c.order.id m)
   carried_trade enough =
       cond-false (least_missed c.order m) (missed c.order (with_last_id c.order.id m)) (trade rule (capped c.order m) c.order.may_route (with_last_id c.order.id m)) (missed_as ∙ le-ltb room c.order.least enough)
       ∙ ap (λ o. trade rule o c.order.may_route (with_last_id c.order.id m)) (sym going_is)
@@ -61,22 +54,14 @@ first_some (c ∷ cs) o why is =
     (λ else. cond-false c.0 (refused c.1) (checked cs o) else ∙ first_some cs o why (sym (cond-false c.0 (Some c.1) (first_refusal cs) else) ∙ is))
     (cases_Bool c.0)
 
-pub first_none : (cs : List Check) → first_refusal cs ≡ None → AllByRecursion (λ c. c.0 ≡ false) cs
-first_none [] is = tt
-first_none (c ∷ cs) is =
-    ⊎_elim
-    (λ fits. absurd (false≢true (ap is_some (sym is ∙ cond-true c.0 (Some c.1) (first_refusal cs) fits))))
-    (λ else. (else, first_none cs (sym (cond-false c.0 (Some c.1) (first_refusal cs) else) ∙ is)))
-    (cases_Bool c.0)
-
 pub none_fits : (cs : List Check) (o : Outcome) → AllByRecursion (λ c. c.0 ≡ false) cs → checked cs o ≡ o
 none_fits [] o all = refl
 none_fits (c ∷ cs) o all = cond-false c.0 (refused c.1) (checked cs o) all.0 ∙ none_fits cs o all.1
 
 pub entry_refused : (rule : Sharing) (c : Entering) (m : Model) (why : Refusal) → first_refusal (entry_checks c m) ≡ Some why → entry_of rule c m ≡ refused why
 unfolding entry_of
-entry_refused rule c m why is = first_some (entry_checks c m) (done (carried rule c m)) why is
+entry_refused rule c m why is = first_some (entry_checks c m) (done (carried rule c.order m)) why is
 
-pub entry_done : (rule : Sharing) (c : Entering) (m : Model) → first_refusal (entry_checks c m) ≡ None → entry_of rule c m ≡ done (carried rule c m)
+pub entry_done : (rule : Sharing) (c : Entering) (m : Model) → AllByRecursion (λ k. k.0 ≡ false) (entry_checks c m) → entry_of rule c m ≡ done (carried rule c.order m)
 unfolding entry_of
-entry_done rule c m is = none_fits (entry_checks c m) (done (carried rule c m)) (first_none (entry_checks c m) is)
+entry_done rule c m all = none_fits (entry_checks c m) (done (carried rule c.order m)) all

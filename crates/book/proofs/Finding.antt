@@ -1,36 +1,40 @@
--- The first with an id among the first places, and the list without it. Assumes nothing.
-use Rattle.std.proofs.Common.{◌≡◌, ℕ, zero, suc, ◌+◌, ◌-◌, ◌<◌, ◌≤◌, cond, not, eqb, List, [], ◌∷◌, ◌++◌, length, get_or, take, drop, set, Some, None, filter, sym, refl, ap, ◌∙◌, ⊎_elim, arith}
-use Rattle.std.specs.List.{remove}
-use Rattle.std.proofs.lemmas.List.{at_drop_more, at_drop_all, length-take, length-take-le, get_or-take, get_or_default, take_at, length-append, length-drop}
-use Rattle.std.proofs.lemmas.List.Edits.{length-remove}
-use Rattle.std.proofs.lemmas.Bool.{cases_Bool, cond-true, cond-false, not_from_true, not_from_false, eq-eqb, ne_eqb}
+-- The first with an id in a list, the list without it, and the first places after a write. Assumes nothing.
+use Rattle.std.proofs.Common.{◌≡◌, Bool, ℕ, zero, suc, ◌+◌, ◌<◌, ◌≤◌, true, false, not, eqb, ltb, List, [], ◌∷◌, length, get_or, take, set, is_some, Some, None, filter, sym, refl, ap, ◌∙◌, ⊎_elim, arith}
+use Rattle.std.specs.List.{position, position_or_len, remove}
+use Rattle.std.proofs.lemmas.Bool.{cases_Bool, cond-true, cond-false, not_from_true, not_from_false, eq-eqb, ltb-false, true≢false}
+use Rattle.std.proofs.lemmas.List.Quantifiers.{position-Some}
 use Rattle.sharing.specs.Totals.{one_if, count}
 use Rattle.rules.specs.Outcome.{found_in}
-use Rattle.book.specs.Standings.{Found}
 
--- an element among the first n is that of the whole
-pub at_first : {X : Type 0} (n : ℕ) (xs : List X) (k : ℕ) (d e : X) → k < length (take n xs) → get_or xs k d ≡ get_or (take n xs) k e
-at_first n xs k d e lt = sym (get_or-take n xs k d (omega (arith, length-take n xs))) ∙ get_or_default (take n xs) k d e lt
+-- the search of the definitions finds what stands at the first position
+module _ {X : Type 0} (id : X → ℕ) (i : ℕ) where
+  abbrev has : X → Bool
+  has x = eqb (id x) i
 
--- the search, at a place k of the first n
-module _ {X : Type 0} (id : X → ℕ) (i n : ℕ) (xs : List X) (le : n ≤ length xs) (k : ℕ) (so_far : found_in id i (drop k (take n xs)) ≡ found_in id i (take n xs)) where
-  next : (d : X) → k < n → found_in id i (drop k (take n xs)) ≡ cond (eqb (id (get_or xs k d)) i) (Some (get_or xs k d)) (found_in id i (drop (k + 1) (take n xs)))
-  next d lt =
-      let on : found_in id i (drop k (take n xs)) ≡ cond (eqb (id (get_or (take n xs) k d)) i) (Some (get_or (take n xs) k d)) (found_in id i (drop (k + 1) (take n xs))) = at_drop_more (found_in id i) (take n xs) k d (omega (arith, length-take-le n xs le)) in
-      on ∙ ap (λ x. cond (eqb (id x) i) (Some x) (found_in id i (drop (k + 1) (take n xs)))) (get_or-take n xs k d lt)
+  found_first : (xs : List X) (k : ℕ) (d : X) → k < length xs → has (get_or xs k d) ≡ true → ((j : ℕ) → j < k → has (get_or xs j d) ≡ false) → found_in id i xs ≡ Some (get_or xs k d)
+  found_first [] k d lt here before = absurd (omega (arith, lt))
+  found_first (x ∷ xs) zero d lt here before = cond-true (has x) (Some x) (found_in id i xs) here
+  found_first (x ∷ xs) (suc k) d lt here before =
+      cond-false (has x) (Some x) (found_in id i xs) (before 0 (omega arith)) ∙ found_first xs k d (omega (arith, lt)) here (λ j less. before (suc j) (omega (arith, less)))
 
-  pub found_here : (d : X) → k < n → id (get_or xs k d) ≡ i → Found id i (take n xs) (Some k)
-  found_here d lt here =
-      let within : k < length (take n xs) = omega (arith, length-take-le n xs le) in
-      (within, λ e. sym so_far ∙ next d lt ∙ cond-true (eqb (id (get_or xs k d)) i) (Some (get_or xs k d)) (found_in id i (drop (k + 1) (take n xs))) (eq-eqb (id (get_or xs k d)) i here) ∙ ap (λ x. Some x) (at_first n xs k d e within))
+  pub found_at : (xs : List X) (k : ℕ) (d : X) → position has xs ≡ Some k → (k < length xs) × (found_in id i xs ≡ Some (get_or xs k d))
+  found_at xs k d is = let first = position-Some has xs k d is in (first.0, found_first xs k d first.0 first.1 first.2)
 
-  pub found_on : (d : X) → k < n → (id (get_or xs k d) ≡ i → ⊥) → found_in id i (drop (k + 1) (take n xs)) ≡ found_in id i (take n xs)
-  found_on d lt away = sym (next d lt ∙ cond-false (eqb (id (get_or xs k d)) i) (Some (get_or xs k d)) (found_in id i (drop (k + 1) (take n xs))) (ne_eqb (id (get_or xs k d)) i away)) ∙ so_far
+  found_none : (xs : List X) → length xs ≤ position_or_len has xs → found_in id i xs ≡ None
+  found_none [] past = refl
+  found_none (x ∷ xs) past =
+      ⊎_elim
+      (λ here. absurd (omega (arith, past, cond-false (not (has x)) (1 + position_or_len has xs) 0 (not_from_true (has x) here))))
+      (λ away. cond-false (has x) (Some x) (found_in id i xs) away ∙ found_none xs (omega (arith, past, cond-true (not (has x)) (1 + position_or_len has xs) 0 (not_from_false (has x) away))))
+      (cases_Bool (has x))
 
-  pub found_not : n ≤ k → Found id i (take n xs) None
-  found_not past =
-      let end : found_in id i (drop k (take n xs)) ≡ None = at_drop_all (found_in id i) (take n xs) k (omega (arith, length-take-le n xs le)) in
-      sym so_far ∙ end
+  pub not_found : (xs : List X) → position has xs ≡ None → found_in id i xs ≡ None
+  not_found xs is =
+      let at = position_or_len has xs in
+      ⊎_elim
+      (λ within. absurd (true≢false (ap is_some (sym (cond-true (ltb at (length xs)) (Some at) None within) ∙ is))))
+      (λ past. found_none xs (ltb-false at (length xs) past))
+      (cases_Bool (ltb at (length xs)))
 
 -- the list without what has an id, where that stands once
 module _ {X : Type 0} (id : X → ℕ) (i : ℕ) where
@@ -60,25 +64,7 @@ module _ {X : Type 0} (id : X → ℕ) (i : ℕ) where
       (λ away. let none = ap one_if away in ap (λ ys. x ∷ ys) (removed_others xs k d (omega arith) is (omega arith)) ∙ sym (cond-true (not (eqb (id x) i)) (x ∷ filter (λ y. not (eqb (id y) i)) xs) (filter (λ y. not (eqb (id y) i)) xs) (not_from_false (eqb (id x) i) away)))
       (cases_Bool (eqb (id x) i))
 
--- the places after a removal
-pub places_after : {X : Type 0} (n : ℕ) (xs ys : List X) (k : ℕ) → n ≤ length xs → k < length (take n xs) → ys ≡ remove (take n xs) k ++ drop (n - 1) xs → (length ys ≡ length xs) × (take (n - 1) ys ≡ remove (take n xs) k)
-places_after n xs ys k le lt is =
-    let few = length-take-le n xs le in
-    let less = length-remove (take n xs) k lt in
-    let size : length (remove (take n xs) k) ≡ n - 1 = omega arith in
-    (ap length is ∙ omega (arith, length-append (remove (take n xs) k) (drop (n - 1) xs), length-drop (n - 1) xs), ap (take (n - 1)) is ∙ take_at (remove (take n xs) k) (drop (n - 1) xs) (n - 1) size)
-
--- the places after an insertion
-pub within_room : {X : Type 0} (n : ℕ) (xs : List X) → n ≤ length xs → length (take n xs) < length xs → n < length xs
-within_room n xs le lt = omega (arith, length-take-le n xs le)
-
-pub places_more : {X : Type 0} (n : ℕ) (xs ys zs : List X) → n < length xs → length zs ≡ length (take n xs) + 1 → ys ≡ zs ++ drop (n + 1) xs → (length ys ≡ length xs) × (take (n + 1) ys ≡ zs)
-places_more n xs ys zs lt more is =
-    let few = length-take-le n xs (omega arith) in
-    let size : length zs ≡ n + 1 = omega arith in
-    (ap length is ∙ omega (arith, length-append zs (drop (n + 1) xs), length-drop (n + 1) xs), ap (take (n + 1)) is ∙ take_at zs (drop (n + 1) xs) (n + 1) size)
-
--- and after a write
+-- the first places after a write
 pub take_of_set : {X : Type 0} (n : ℕ) (xs : List X) (k : ℕ) (y : X) → take n (set xs k y) ≡ set (take n xs) k y
 take_of_set zero xs k y = refl
 take_of_set (suc n) [] k y = refl

@@ -5,7 +5,6 @@ pub mod Ends
 pub mod Entered
 pub mod Finding
 pub mod Meets
-pub mod OneProof
 pub mod Opened
 pub mod Puts
 pub mod Resized

@@ -1,9 +1,7 @@
--- What an order trades on the other side, in its places. Assumes nothing.
-use Rattle.std.proofs.Common.{◌≡◌, ℕ, ◌≤◌, ◌&&◌, leb, List, [], ◌∷◌, ◌++◌, length, take, Option, sym, ap, ◌∙◌, arith, length-append}
-use Rattle.std.proofs.lemmas.List.{length-take}
+-- What an order trades on the other side. Assumes nothing.
+use Rattle.std.proofs.Common.{◌≡◌, ℕ, ◌≤◌, ◌&&◌, leb, List, [], ◌∷◌, ◌++◌, length, Option, sym, ap, ◌∙◌, arith, length-append}
 use Rattle.std.proofs.lemmas.Bool.{cond_both}
 use Rattle.sharing.specs.Sharing.{Sharing}
-use Rattle.rules.specs.declared.tape.Line.{Line}
 use Rattle.rules.specs.declared.terms.Entry.{Entry}
 use Rattle.rules.specs.declared.terms.Routed.{Routed}
 use Rattle.rules.specs.declared.terms.Side.{Side}
@@ -14,47 +12,39 @@ use Rattle.rules.specs.Prices.{in_reach}
 use Rattle.rules.specs.Sides.{other_side}
 use Rattle.rules.specs.Trade.{traded}
 use Rattle.rules.specs.Walk.{runs, flat, at_price, is_price_of, walk}
-use Rattle.matching.specs.Tapes.{written}
 use Rattle.rules.proofs.Leaves.{level_short, runs_are_whole}
+use Rattle.matching.specs.Walks.{walked}
+use Rattle.book.specs.Sides.{OneSide, one_side, with_list, nation}
+use Rattle.book.specs.Books.{model, TwoSides}
+use Rattle.book.specs.declared.state.State.TheInside.{Inside}
 
-module _ (rule : Sharing) (o : Routed) (m : Model) where
-  -- the other side with what the order left, in as many places
-  pub left_bids : o.side ≡ Sell → (n : ℕ) (es : List Entry) → take n es ≡ (traded rule o m).run → length es ≡ m.opening.bid_places → ◌≡◌ {A = Model} (record { bids = take n es; offers = m.offers; out = m.out; away_bid = m.away_bid; away_offer = m.away_offer; counters = m.counters; opening = record { bid_places = length es; offer_places = m.opening.offer_places; tick = m.opening.tick; series = m.opening.series } }) (with_entries (other_side o.side) (traded rule o m).run m)
-  left_bids is n es same wide =
-      (λ t. record { bids = same t; offers = m.offers; out = m.out; away_bid = m.away_bid; away_offer = m.away_offer; counters = m.counters; opening = record { bid_places = wide t; offer_places = m.opening.offer_places; tick = m.opening.tick; series = m.opening.series } })
-      ∙ ap (λ s. with_entries (other_side s) (traded rule o m).run m) (sym is)
+-- the book's sides are those of its model
+pub bids_are : (x : Inside) (m : Model) → TwoSides x → model x ≡ m → x.bids ≡ one_side Buy m
+bids_are x m two is = λ t. record { side = two.bids t; entries = (is t).bids; places = (is t).opening.bid_places; away = (is t).away_bid }
 
-  pub left_offers : o.side ≡ Buy → (n : ℕ) (es : List Entry) → take n es ≡ (traded rule o m).run → length es ≡ m.opening.offer_places → ◌≡◌ {A = Model} (record { bids = m.bids; offers = take n es; out = m.out; away_bid = m.away_bid; away_offer = m.away_offer; counters = m.counters; opening = record { bid_places = m.opening.bid_places; offer_places = length es; tick = m.opening.tick; series = m.opening.series } }) (with_entries (other_side o.side) (traded rule o m).run m)
-  left_offers is n es same wide =
-      (λ t. record { bids = m.bids; offers = same t; out = m.out; away_bid = m.away_bid; away_offer = m.away_offer; counters = m.counters; opening = record { bid_places = m.opening.bid_places; offer_places = wide t; tick = m.opening.tick; series = m.opening.series } })
-      ∙ ap (λ s. with_entries (other_side s) (traded rule o m).run m) (sym is)
+pub offers_are : (x : Inside) (m : Model) → TwoSides x → model x ≡ m → x.offers ≡ one_side Sell m
+offers_are x m two is = λ t. record { side = two.offers t; entries = (is t).offers; places = (is t).opening.offer_places; away = (is t).away_offer }
 
-  module _ (s : Side) (is : o.side ≡ s) (near : Option ℕ) (nation : near ≡ national_best (other_side s) m) where
-    -- the walk over the other side is what the order trades
-    abbrev walked : Deal
-    walked = walk rule o near (away (other_side s) m) o.size (runs (entries (other_side s) m))
+-- the walk over a side is what an order of the other side trades
+pub walked_is : (rule : Sharing) (o : Routed) (m : Model) (c : Side) (x : OneSide) → x ≡ one_side c m → c ≡ other_side o.side → walked rule o (nation x) x.away x.entries ≡ traded rule o m
+unfolding traded
+walked_is rule o m c x is other = ap (λ y. walked rule o (nation y) y.away y.entries) is ∙ ap (λ s. walk rule o (national_best s m) (away s m) o.size (runs (entries s m))) other
 
-    walked_is : walked ≡ traded rule o m
-    unfolding traded
-    walked_is =
-        ap (λ k. walk rule o k (away (other_side s) m) o.size (runs (entries (other_side s) m))) nation
-        ∙ ap (λ u. walk rule o (national_best (other_side u) m) (away (other_side u) m) o.size (runs (entries (other_side u) m))) (sym is)
+-- the book with what is left on a side
+module _ (x : Inside) (m : Model) (two : TwoSides x) (is : model x ≡ m) (after : OneSide) (o : Routed) (rule : Sharing) where
+  pub left_bids : o.side ≡ Sell → walked rule o (nation x.bids) x.bids.away x.bids.entries ≡ traded rule o m → after ≡ with_list (walked rule o (nation x.bids) x.bids.away x.bids.entries).run x.bids
+      → model (record x { bids = after }) ≡ with_entries (other_side o.side) (traded rule o m).run m
+  left_bids sells all left =
+      (λ t. model (record x { bids = (left ∙ ap (λ (d : Deal). with_list d.run x.bids) all) t }))
+      ∙ ap (λ (y : Model). with_entries Buy (traded rule o m).run y) is
+      ∙ ap (λ s. with_entries (other_side s) (traded rule o m).run m) (sym sells)
 
-    pub met_balance : (b : ℕ) → b ≡ walked.balance → b ≡ (traded rule o m).balance
-    met_balance b said = said ∙ ap (λ d. d.balance) walked_is
-
-    pub met_lines : (n : ℕ) → n ≡ length walked.lines → n ≡ length (traded rule o m).lines
-    met_lines n said = said ∙ ap (λ d. length d.lines) walked_is
-
-    pub met_tape : (before after : List Line) → after ≡ written 0 walked.lines before → after ≡ written 0 (traded rule o m).lines before
-    met_tape before after said = said ∙ ap (λ d. written 0 d.lines before) walked_is
-
-    pub met_run : (n : ℕ) (es : List Entry) → take n es ≡ walked.run → take n es ≡ (traded rule o m).run
-    met_run n es said = said ∙ ap (λ d. d.run) walked_is
-
-    -- the entries that are left have places
-    pub met_within : (n : ℕ) (es : List Entry) → n ≡ length walked.run → take n es ≡ walked.run → n ≤ length es
-    met_within n es long said = omega (arith, length-take n es, ap length said, long)
+  pub left_offers : o.side ≡ Buy → walked rule o (nation x.offers) x.offers.away x.offers.entries ≡ traded rule o m → after ≡ with_list (walked rule o (nation x.offers) x.offers.away x.offers.entries).run x.offers
+      → model (record x { offers = after }) ≡ with_entries (other_side o.side) (traded rule o m).run m
+  left_offers buys all left =
+      (λ t. model (record x { offers = (left ∙ ap (λ (d : Deal). with_list d.run x.offers) all) t }))
+      ∙ ap (λ (y : Model). with_entries Sell (traded rule o m).run y) is
+      ∙ ap (λ s. with_entries (other_side s) (traded rule o m).run m) (sym buys)
 
 -- no more lines than entries
 walk_short : (rule : Sharing) (o : Routed) (near far : Option ℕ) (balance : ℕ) (rs : List (List Entry)) → length (walk rule o near far balance rs).lines ≤ length (flat rs)

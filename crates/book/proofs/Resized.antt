@@ -3,7 +3,6 @@ use Rattle.std.proofs.Common.{◌≡◌, ℕ, zero, suc, ◌+◌, ◌<◌, ◌�
 use Rattle.std.specs.List.{remove}
 use Rattle.std.proofs.lemmas.List.Edits.{length-remove}
 use Rattle.std.proofs.lemmas.Bool.{cases_Bool, cond-true, cond-false, eq-eqb, ne_eqb, lt-ltb, le-ltb, and_from, and_left, and_right, not_from_true, not_from_false}
-use Rattle.ranked.specs.Ranked.{ahead, Sorted}
 use Rattle.sharing.specs.Totals.{one_if, count}
 use Rattle.rules.specs.declared.numbers.Refusal.{Refusal}
 use Rattle.rules.specs.declared.numbers.Refusal.TheVariants.{FirmZero, BadSize, AnotherFirms, LastTimeReached}
@@ -16,19 +15,15 @@ use Rattle.rules.specs.Outcome.{Outcome, Standing, standing}
 use Rattle.rules.specs.Outcome.Outcome.{refused, done}
 use Rattle.rules.specs.Outcome.Standing.{resting, out_on_route, nowhere}
 use Rattle.rules.specs.Prices.{is_size}
-use Rattle.rules.specs.Ranks.{rank_of, rank_before}
-use Rattle.rules.specs.Sound.{InRank, Sound}
+use Rattle.rules.specs.Sound.{Sound}
 use Rattle.rules.proofs.CallsKeep.{reduced_none, side_once}
-use Rattle.rules.proofs.InRank.{in_rank_left}
-use Rattle.rules.proofs.Leaves.{left_kept}
 use Rattle.rules.proofs.Moves.{has_id, good_side}
 use Rattle.book.specs.Answers.{Settles}
-use Rattle.book.specs.Standings.{entry_id, not_its, Its}
+use Rattle.book.specs.Standings.{not_its, Its}
 use Rattle.book.specs.declared.find.Own.{Own}
-use Rattle.book.proofs.Cancelled.{answers, same_opening, the_same, refused_out, refused_entry, without_found}
+use Rattle.book.proofs.Cancelled.{answers, the_same, refused_out, refused_entry, without_found}
 use Rattle.book.proofs.Edited.{entries_with, places_with, with_again}
 use Rattle.book.proofs.Finding.{counted_at}
-use Rattle.book.proofs.Puts.{in_rank_sorted}
 use Rattle.book.proofs.Standings.{no_entry}
 
 module _ (c : Resizing) (m : Model) where
@@ -95,7 +90,7 @@ reduced_at i n (e ∷ es) zero d lt is once =
     let one = ap one_if here in
     λ t. sym (cond-true (eqb e.id i) (resized n e) e here) t ∷ sym (reduced_none i n es (omega arith)) t
 reduced_at i n (e ∷ es) (suc k) d lt is once =
-    let behind = counted_at entry_id i es k d (omega arith) is in
+    let behind = counted_at (λ (x : Entry). x.id) i es k d (omega arith) is in
     ⊎_elim
     (λ here. absurd (let one = ap one_if here in omega arith))
     (λ away. let none = ap one_if away in λ t. sym (cond-false (eqb e.id i) (resized n e) e away) t ∷ reduced_at i n es k d (omega arith) is (omega arith) t)
@@ -104,9 +99,9 @@ reduced_at i n (e ∷ es) (suc k) d lt is once =
 pub reduced_there : (i firm n : ℕ) (m : Model) (p : Own) → Sound m → Its i firm m p → set (entries p.side m) p.at (resized n p.entry) ≡ reduced_in i n (entries p.side m)
 reduced_there i firm n m p sound its =
     let es = entries p.side m in
-    ap (λ e. set es p.at (resized n e)) (its.entry no_entry) ∙ reduced_at i n es p.at no_entry its.within (sym (ap entry_id (its.entry no_entry)) ∙ its.id) (side_once p.side m sound i)
+    ap (λ e. set es p.at (resized n e)) (its.entry no_entry) ∙ reduced_at i n es p.at no_entry its.within (sym (ap (λ (x : Entry). x.id) (its.entry no_entry)) ∙ its.id) (side_once p.side m sound i)
 
--- without its entry a side has a place, and is sorted
+-- without its entry a side has a place
 module _ (i firm : ℕ) (m n : Model) (p : Own) (sound : Sound m) (its : Its i firm m p) (is : n ≡ with_entries p.side (remove (entries p.side m) p.at) m) where
   pub has_room : length (entries p.side n) < places p.side n
   has_room =
@@ -114,13 +109,6 @@ module _ (i firm : ℕ) (m n : Model) (p : Own) (sound : Sound m) (its : Its i f
       let es = remove (entries s m) p.at in
       subst (λ x. length (entries s x) < places s x) (sym is)
       (omega (arith, ap length (entries_with s es m), places_with s es m, length-remove (entries s m) p.at its.within, (good_side s m sound).few))
-
-  pub stays_sorted : Sorted (ahead rank_before (λ _. rank_of) p.side) (entries p.side n)
-  stays_sorted =
-      let s = p.side in
-      let es = remove (entries s m) p.at in
-      subst (λ x. Sorted (ahead rank_before (λ _. rank_of) s) (entries s x)) (sym is)
-      (in_rank_sorted s (entries s (with_entries s es m)) (subst (InRank s) (sym (entries_with s es m ∙ without_found i firm m p sound its)) (in_rank_left s (left_kept (λ f. not (eqb f.id i)) (entries s m)) (good_side s m sound).ranked)))
 
   pub rests_again : (e : Entry) → with_last_time e.time (with_entries p.side (ranked_in p.side e (entries p.side n)) n) ≡ with_last_time e.time (with_entries p.side (ranked_in p.side e (without_entry i (entries p.side m))) m)
   rests_again e =
@@ -142,7 +130,3 @@ module _ (c : Resizing) (m n : Model) (p : Own) (firm : c.firm ≡ 0 → ⊥) (s
       let e = enlarged c.size (m.counters.last_time + 1) p.entry in
       let again = rests_again c.id c.firm m o p sound its gone e in
       answers (resize_of c m) (record { answer = c.size; lines = []; after = with_last_time (m.counters.last_time + 1) (with_entries p.side (ranked_in p.side e (without_entry c.id (entries p.side m))) m); ticket = None }) m n c.size (made_larger c m firm size p.side p.entry its.stands its.firm_is lt early) (is ∙ again) refl
-
--- the opening is the same after an entry went and came
-pub same_after_both : (s : Side) (es fs : List Entry) (t : ℕ) (m o n : Model) → o ≡ with_entries s es m → n ≡ with_last_time t (with_entries s fs o) → n.opening ≡ m.opening
-same_after_both s es fs t m o n gone is = ap (λ (x : Model). x.opening) is ∙ same_opening s fs o (with_entries s fs o) refl ∙ same_opening s es m o gone

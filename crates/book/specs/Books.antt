@@ -1,22 +1,21 @@
--- The book as lists and numbers, read off its places and fields. Assumes nothing.
-use Rattle.std.specs.Prelude.{◌≡◌, ◌≤◌, length, take}
+-- The book as lists and numbers, read off its fields. Assumes nothing.
+use Rattle.std.specs.Prelude.{◌≡◌}
+use Rattle.rules.specs.declared.terms.Side.TheVariants.{Buy, Sell}
 use Rattle.rules.specs.Model.{Model}
-use Rattle.book.specs.declared.state.State.{State}
+use Rattle.book.specs.declared.state.State.TheInside.{Inside}
 
-abbrev pub model : State → Model
+abbrev pub model : Inside → Model
 model s = record {
-  bids = take s.bid_count s.bids.now;
-  offers = take s.offer_count s.offers.now;
-  out = take s.out_count s.out;
-  away_bid = s.away_bid;
-  away_offer = s.away_offer;
-  counters = record { last_id = s.counters.last_id; last_time = s.counters.last_time };
-  opening = record { bid_places = length s.bids.now; offer_places = length s.offers.now; tick = s.tick; series = s.series };
+  bids = s.bids.entries;
+  offers = s.offers.entries;
+  out = s.out.items;
+  away_bid = s.bids.away;
+  away_offer = s.offers.away;
+  counters = record { last_id = s.last_id; last_time = s.last_time };
+  opening = record { bid_places = s.bids.places; offer_places = s.offers.places; tick = s.tick; series = s.series };
 }
 
--- the counts are of places that are there
-pub record Fits (s : State) : Type 0 where
-  pub bids : s.bid_count ≤ length s.bids.now
-  pub offers : s.offer_count ≤ length s.offers.now
-  pub out : s.out_count ≤ 16
-  pub rows : length s.out ≡ 16
+-- the bids are ranked as bids, the offers as offers
+pub record TwoSides (s : Inside) : Type 0 where
+  pub bids : s.bids.side ≡ Buy
+  pub offers : s.offers.side ≡ Sell

@@ -2,7 +2,9 @@ pub mod Answers
 pub mod Books
 pub mod Endings
 pub mod Entries
+pub mod Orders
 pub mod Refusals
 pub mod Returns
+pub mod Sides
 pub mod Standings
 pub mod Tickets

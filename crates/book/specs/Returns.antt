@@ -1,5 +1,5 @@
 -- Which row comes back, by its place. Assumes nothing.
-use Rattle.std.specs.Prelude.{◌≡◌, ℕ, ◌<◌, false, List, length, Some, None, Ok, Err, Option, Result, slice_index_or}
+use Rattle.std.specs.Prelude.{◌≡◌, ℕ, ◌-◌, ◌<◌, false, length, Some, Ok, Err, Result, slice_index_or}
 use Rattle.std.specs.List.{AllByRecursion}
 use Rattle.sharing.specs.Sharing.{Sharing}
 use Rattle.rules.specs.declared.numbers.Refusal.{Refusal}
@@ -8,11 +8,12 @@ use Rattle.rules.specs.Calls.{Returning, return_checks, return_of}
 use Rattle.rules.specs.Model.{Model}
 use Rattle.rules.specs.Outcome.{row_with}
 use Rattle.rules.specs.Outcome.Outcome.{refused}
+use Rattle.matching.specs.declared.lent.Lent.{Lent}
+use Rattle.book.specs.declared.ticket.Ticket.{Ticket}
 
--- the first row with an id is at a place, or there is none
-abbrev pub FoundRow : ℕ → List Routed → Option ℕ → Type 0
-FoundRow i rows None = row_with i rows ≡ None
-FoundRow i rows (Some k) = (k < length rows) × ((d : Routed) → row_with i rows ≡ Some (slice_index_or rows k d))
+-- a return of a ticket, with the places that are left on the tape and those of the claim sheet
+abbrev pub returning : Ticket → ℕ → Lent → Returning
+returning t executed l = record { series = t.series; id = t.id; executed = executed; tape = length l.tape.now - l.lines; sheet = length l.sheet.now }
 
 -- a return's row is at a place, and no check refuses the return; or the return is refused
 abbrev pub Comes : Returning → Model → Result ℕ Refusal → Type 0

@@ -1,32 +1,21 @@
 -- Where an order is, by its place. Assumes nothing.
-use Rattle.std.specs.Prelude.{◌≡◌, ℕ, ◌<◌, cond, not, List, length, Some, None, Ok, Err, Option, Result, ◌==◌, slice_index_or}
+use Rattle.std.specs.Prelude.{◌≡◌, ℕ, ◌<◌, cond, not, length, Some, None, Ok, Err, Option, Result, ◌==◌, slice_index_or}
 use Rattle.rules.specs.declared.numbers.Refusal.{Refusal}
 use Rattle.rules.specs.declared.numbers.Refusal.TheVariants.{NeitherRestingNorOut, AnotherFirms, OutOnRoute}
 use Rattle.rules.specs.declared.terms.Entry.{Entry}
 use Rattle.rules.specs.declared.terms.Routed.{Routed}
 use Rattle.rules.specs.Model.{Model, entries}
-use Rattle.rules.specs.Outcome.{found_in, standing, Standing as OrderStanding}
+use Rattle.rules.specs.Outcome.{standing, Standing as OrderStanding}
 use Rattle.rules.specs.Outcome.Standing.{resting, out_on_route, nowhere}
 use Rattle.book.specs.declared.find.Own.{Own}
 use Rattle.book.specs.declared.find.Standing.{Standing}
-use Rattle.book.specs.declared.find.Standing.TheVariants.{Resting, Out, Nowhere}
-
-abbrev pub entry_id : Entry → ℕ
-entry_id e = e.id
-
-abbrev pub row_id : Routed → ℕ
-row_id r = r.id
-
--- the first with an id is at a place, or there is none
-abbrev pub Found : {X : Type 0} → (X → ℕ) → ℕ → List X → Option ℕ → Type 0
-Found id i xs None = found_in id i xs ≡ None
-Found {X} id i xs (Some k) = (k < length xs) × ((d : X) → found_in id i xs ≡ Some (slice_index_or xs k d))
+use Rattle.book.specs.declared.find.Standing.TheVariants.{Resting, Out}
 
 -- where the order with an id is
-abbrev pub Stands : ℕ → Model → Standing → Type 0
-Stands i m (Resting s k) = (k < length (entries s m)) × ((d : Entry) → ((slice_index_or (entries s m) k d).id ≡ i) × (standing i m ≡ resting s (slice_index_or (entries s m) k d)))
-Stands i m (Out k) = (k < length m.out) × ((d : Routed) → standing i m ≡ out_on_route (slice_index_or m.out k d))
-Stands i m Nowhere = standing i m ≡ nowhere
+abbrev pub Stands : ℕ → Model → Option Standing → Type 0
+Stands i m (Some (Resting s k)) = (k < length (entries s m)) × ((d : Entry) → ((slice_index_or (entries s m) k d).id ≡ i) × (standing i m ≡ resting s (slice_index_or (entries s m) k d)))
+Stands i m (Some (Out k)) = (k < length m.out) × ((d : Routed) → standing i m ≡ out_on_route (slice_index_or m.out k d))
+Stands i m None = standing i m ≡ nowhere
 
 -- why a firm may not touch an order, by where it is
 abbrev pub not_its : ℕ → OrderStanding → Option Refusal

@@ -1,109 +1,101 @@
 // The checks before an entry, in their order.
-ghost use Rattle.std.specs.Prelude.{◌≡◌, ◌<◌, not, ◌&&◌, ◌||◌, length, is_some, ◌==◌, nat_le};
+ghost use Rattle.std.specs.Prelude.{◌≡◌, ◌-◌, ◌<◌, [], not, ◌&&◌, ◌||◌, length, is_some, ◌==◌, nat_le};
 ghost use Rattle.rules.specs.Calls.{reference, entry_checks};
 ghost use Rattle.rules.specs.Caps.{is_ioc};
 ghost use Rattle.rules.specs.Checks.{unpriced};
 ghost use Rattle.rules.specs.Model.{entries, places};
-ghost use Rattle.rules.specs.Outcome.{longer_side, firm_zero};
-ghost use Rattle.book.specs.Books.{model, Fits};
-ghost use Rattle.book.specs.Refusals.{first_refusal};
+ghost use Rattle.rules.specs.Outcome.{longer_side, lent_checks, firm_zero};
+ghost use Rattle.book.specs.Entries.{entering};
+ghost use Rattle.book.specs.Refusals.{Passes};
 
 use crate::market::bad_price;
 use crate::state::State;
-use crate::trade::national_best;
-use rules::{Order, Refusal, Side, valid_size};
-
-// The places of the longer side.
-pub(crate) fn longer_side(state: &State) -> usize
-    ensures { result ≡ longer_side (model state.now) }
-{
-    state.bids.len().max(state.offers.len())
-}
-
-// No place is left on a side.
-pub(crate) fn is_full(state: &State, side: Side) -> bool
-    requires { Fits state.now }
-    ensures { result ≡ nat_le (places side (model state.now)) (length (entries side (model state.now))) }
-{
-    match side {
-        Side::Buy => state.bids.len() <= state.bid_count,
-        Side::Sell => state.offers.len() <= state.offer_count,
-    }
-}
+use matching::Lent;
+use rules::{Order, Refusal, valid_size};
 
 // The order's firm, or the one that it is directed to, has the number 0.
 fn firm_zero(order: &Order) -> bool
     ensures { result ≡ (order.now.firm == 0 || firm_zero order.now.directed) }
 {
-    match order.directed {
-        None => order.firm == 0,
-        Some(to) => order.firm == 0 || to == 0,
-    }
+    order.firm == 0 || order.directed == Some(0)
 }
 
-// The order may route, and sixteen are out.
-fn no_row(state: &State, order: &Order) -> bool
-    requires { Fits state.now }
-    ensures { result ≡ (order.now.may_route && nat_le 16 (length (model state.now).out)) }
-{
-    order.may_route && state.out_count >= 16
-}
+impl State<'_> {
+    // The places of the longer side.
+    fn longer_side(&self) -> usize
+        ensures { result ≡ longer_side self.now }
+    {
+        self.bids.places().max(self.offers.places())
+    }
 
-// An order for the day needs a place on its side, whether it would rest or not.
-fn no_place(state: &State, order: &Order) -> bool
-    requires { Fits state.now }
-    ensures { result ≡ (not (is_ioc order.now.term) && nat_le (places order.now.side (model state.now)) (length (entries order.now.side (model state.now)))) }
-{
-    !order.term.is_immediate() && is_full(state, order.side)
-}
+    // What the host lends for an entry or a return is long enough.
+    pub(crate) fn check_lent(&self, lent: &Lent<'_>) -> Result<(), Refusal>
+        ensures { Passes (lent_checks (length lent.now.tape.now - lent.now.lines) (length lent.now.sheet.now) self.now []) result }
+    {
+        let longer = self.longer_side();
+        if lent.tape.len().saturating_sub(lent.lines) <= longer {
+            return Err(Refusal::TapeTooShort);
+        }
+        if lent.sheet.len() < longer {
+            return Err(Refusal::ClaimSheetTooShort);
+        }
+        Ok(())
+    }
 
-// A Market Order has nothing to reckon its collar from.
-fn no_reference(state: &State, order: &Order) -> bool
-    requires { Fits state.now }
-    ensures { result ≡ (unpriced order.now && not (is_some (reference order.now (model state.now)))) }
-{
-    order.price.is_none() && national_best(state, order.side.other()).is_none()
-}
+    // The order may route, and sixteen are out.
+    fn no_row(&self, order: &Order) -> bool
+        ensures { result ≡ (order.now.may_route && nat_le 16 (length self.now.out)) }
+    {
+        order.may_route && self.out.len() >= 16
+    }
 
-// The refusal of an entry, if any: the first check that fits.
-pub(crate) fn refusal_of(state: &State, order: &Order, tape: usize, sheet: usize) -> Option<Refusal>
-    requires fits { Fits state.now }
-    requires tick { 0 < state.now.tick }
-    ensures { result ≡ first_refusal (entry_checks (record { order = order.now; tape = tape; sheet = sheet }) (model state.now)) }
-{
-    let longer = longer_side(state);
-    if tape <= longer {
-        return Some(Refusal::TapeTooShort);
+    // An order for the day needs a place on its side, whether it would rest or not.
+    fn no_place(&self, order: &Order) -> bool
+        ensures { result ≡ (not (is_ioc order.now.term) && nat_le (places order.now.side self.now) (length (entries order.now.side self.now))) }
+    {
+        !order.term.is_immediate() && self.side(order.side).is_full()
     }
-    if sheet < longer {
-        return Some(Refusal::ClaimSheetTooShort);
+
+    // A Market Order has nothing to reckon its collar from.
+    fn no_reference(&self, order: &Order) -> bool
+        ensures { result ≡ (unpriced order.now && not (is_some (reference order.now self.now))) }
+    {
+        order.price.is_none() && self.side(order.side.other()).national_best().is_none()
     }
-    if order.id <= state.counters.last_id {
-        return Some(Refusal::IdNotAboveAllBefore);
+
+    // An entry is refused by the first check that fits.
+    pub(crate) fn check_entry(&self, order: &Order, lent: &Lent<'_>) -> Result<(), Refusal>
+        requires { 0 < self.now.opening.tick }
+        ensures { Passes (entry_checks (entering order.now lent.now) self.now) result }
+    {
+        self.check_lent(lent)?;
+        if order.id <= self.last_id {
+            return Err(Refusal::IdNotAboveAllBefore);
+        }
+        if firm_zero(order) {
+            return Err(Refusal::FirmZero);
+        }
+        if !valid_size(order.size) {
+            return Err(Refusal::BadSize);
+        }
+        if bad_price(self.tick, order.price) {
+            return Err(Refusal::BadPrice);
+        }
+        if order.terms_clash() {
+            return Err(Refusal::TermsClash);
+        }
+        if self.last_time > 4_000_000_000 {
+            return Err(Refusal::LastTimeReached);
+        }
+        if self.no_row(order) {
+            return Err(Refusal::SixteenOut);
+        }
+        if self.no_place(order) {
+            return Err(Refusal::SideFull);
+        }
+        if self.no_reference(order) {
+            return Err(Refusal::NoReference);
+        }
+        Ok(())
     }
-    if firm_zero(order) {
-        return Some(Refusal::FirmZero);
-    }
-    if !valid_size(order.size) {
-        return Some(Refusal::BadSize);
-    }
-    if bad_price(state.tick, order.price) {
-        return Some(Refusal::BadPrice);
-    }
-    if order.terms_clash() {
-        return Some(Refusal::TermsClash);
-    }
-    if state.counters.last_time > 4_000_000_000 {
-        return Some(Refusal::LastTimeReached);
-    }
-    if no_row(state, order) {
-        return Some(Refusal::SixteenOut);
-    }
-    if no_place(state, order) {
-        return Some(Refusal::SideFull);
-    }
-    if no_reference(state, order) {
-        return Some(Refusal::NoReference);
-    }
-    None
 }

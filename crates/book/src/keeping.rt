@@ -4,25 +4,19 @@ ghost use Rattle.sharing.specs.Sharing.{Lawful};
 ghost use Rattle.rules.specs.Calls.{entry_of, return_of, resize_of, cancel_of, market_of, bad_places, opened, opening_of};
 ghost use Rattle.rules.specs.Model.{entries, best, national_best};
 ghost use Rattle.rules.specs.Prices.{is_tick};
-ghost use Rattle.rules.specs.Sound.{Sound};
 ghost use Rattle.laws.specs.Histories.{is_accepted};
 ghost use Rattle.laws.specs.Histories.Call.{enters, returns, resizes, cancels, updates};
 ghost use Rattle.laws.specs.Lawful.{StaysLawful};
 ghost use Rattle.book.specs.Answers.{Settles, Checks};
-ghost use Rattle.book.specs.Books.{model, Fits};
 ghost use Rattle.book.specs.Entries.{taped};
 ghost use Rattle.book.specs.Tickets.{Gives, ReturnsAs};
 
-use crate::cancel::cancel;
-use crate::entry::enter;
-use crate::market::market;
-use crate::resize::resize;
-use crate::returning::give_back;
-use crate::state::{Counters, State};
+use crate::state::State;
 use crate::ticket::{NotReturned, Ticket};
-use crate::trade::{best_on, national_best};
-use rules::{Entry, Kind, Line, Order, Refusal, Routed, Side, Term, valid_tick};
+use matching::Lent;
+use rules::{Entry, Line, Order, Refusal, Side, valid_tick};
 use sharing::{Claim, Rule};
+use std::marker::Model;
 
 // An accepted entry: the lines of its tape, and the ticket of an order that went out.
 pub struct Accepted {
@@ -31,6 +25,7 @@ pub struct Accepted {
 }
 
 // The ticket of an order that went out.
+// Stays told by a flag: an `Option` of a ticket, handed on through the trade, could not be let go where there is none.
 fn ticket_for(routed: bool, series: u32, id: u64) -> Option<Ticket>
     ensures { Gives series (if routed then Some id else None) result }
 {
@@ -41,11 +36,21 @@ fn ticket_for(routed: bool, series: u32, id: u64) -> Option<Ticket>
     }
 }
 
+// A caller sees the book as lists and numbers: its entries on each side, the orders out, away prices and counters.
 #[derive(Drop)]
 pub struct Book<'a> {
     state: State<'a>,
-    ghost sound: { ∥ Sound (model state) ∥₁ },
-    ghost fits: { ∥ Fits state ∥₁ },
+}
+
+impl<'a> Model for Book<'a> {
+    ghost use Rattle.rules.specs.Model as rulebook;
+    ghost use Rattle.rules.specs.Sound.{Sound};
+
+    ghost Value = { rulebook.Model };
+
+    ghost view = { λ b. b.state };
+
+    ghost invariant = { λ b. Sound b.state };
 }
 
 // A side has 1 to 256 places.
@@ -85,51 +90,23 @@ pub fn check_opening(
     Ok(())
 }
 
-// A row of the orders out that is not used.
-const UNUSED: Routed = Routed {
-    id: 0,
-    firm: 0,
-    kind: Kind::Customer,
-    side: Side::Buy,
-    term: Term::Day,
-    market: false,
-    cap: 0,
-    size: 0,
-    directed: None,
-    own_firm_mark: false,
-};
-
 impl<'a> Book<'a> {
     // A book without entries, orders out or away prices, in places that the host lends, after `check_opening` let it pass.
     pub fn open(bids: &'a mut [Entry], offers: &'a mut [Entry], tick: u32, series: u32) -> Self
         requires { is_accepted (opening_of (record { bid_places = length bids.old; offer_places = length offers.old; tick = tick; series = series })) ≡ true }
-        ensures { model result.state ≡ opened (record { bid_places = length bids.old; offer_places = length offers.old; tick = tick; series = series }) }
+        ensures { result ≡ opened (record { bid_places = length bids.old; offer_places = length offers.old; tick = tick; series = series }) }
     {
-        let state = State {
-            bids,
-            bid_count: 0,
-            offers,
-            offer_count: 0,
-            out: [UNUSED; 16],
-            out_count: 0,
-            away_bid: None,
-            away_offer: None,
-            counters: Counters {
-                last_id: 0,
-                last_time: 0,
-            },
-            tick,
-            series,
-        };
-        Book { state }
+        Book {
+            state: State::new(bids, offers, tick, series),
+        }
     }
 
     // Sets the away price on a side, or none; refused for a price that is none.
     pub fn market(&mut self, side: Side, price: Option<u32>) -> Result<(), Refusal>
-        ensures outcome { Settles (market_of (record { side = side; price = price }) (model self.old.state)) (model self.old.state) result (model self.new.state) (λ d a. Unit {0}) }
-        ensures lawful { StaysLawful (model self.old.state) (updates (record { side = side; price = price })) }
+        ensures outcome { Settles (market_of (record { side = side; price = price }) self.old) self.old result self.new (λ d a. Unit {0}) }
+        ensures lawful { StaysLawful self.old (updates (record { side = side; price = price })) }
     {
-        market(&mut self.state, side, price)
+        self.state.market(side, price)
     }
 
     // Enters an order or a quote: it is refused by the first check that fits, or it trades, and what is left of it rests, goes
@@ -142,40 +119,41 @@ impl<'a> Book<'a> {
         sheet: &mut [Claim],
         tape: &mut [Line],
     ) -> Result<Accepted, Refusal>
-        ensures outcome { Settles (entry_of (R.meaning rule.now) (record { order = order.now; tape = length tape.old; sheet = length sheet.old }) (model self.old.state)) (model self.old.state) result (model self.new.state) (λ d a. (a.lines ≡ d.answer) × Gives self.old.state.series d.ticket a.ticket) }
-        ensures tape { tape.new ≡ taped (entry_of (R.meaning rule.now) (record { order = order.now; tape = length tape.old; sheet = length sheet.old }) (model self.old.state)) tape.old }
+        ensures outcome { Settles (entry_of (R.meaning rule.now) (record { order = order.now; tape = length tape.old; sheet = length sheet.old }) self.old) self.old result self.new (λ d a. (a.lines ≡ d.answer) × Gives self.old.opening.series d.ticket a.ticket) }
+        ensures tape { tape.new ≡ taped (entry_of (R.meaning rule.now) (record { order = order.now; tape = length tape.old; sheet = length sheet.old }) self.old) tape.old }
         ensures sheet { is_ok result ≡ false → sheet.new ≡ sheet.old }
         ensures length { length sheet.new ≡ length sheet.old }
-        ensures lawful { (keeps : Lawful (R.meaning rule.now)) → StaysLawful (model self.old.state) (enters (record { shares = R.meaning rule.now; keeps = keeps }) (record { order = order.now; tape = length tape.old; sheet = length sheet.old })) }
+        ensures lawful { (keeps : Lawful (R.meaning rule.now)) → StaysLawful self.old (enters (record { shares = R.meaning rule.now; keeps = keeps }) (record { order = order.now; tape = length tape.old; sheet = length sheet.old })) }
     {
         let series = self.state.series;
-        match enter(&mut self.state, rule, order, sheet, tape) {
-            Err(why) => Err(why),
-            Ok(traded) => {
-                let ticket = ticket_for(traded.routed, series, order.id);
-                Ok(Accepted {
-                    lines: traded.lines,
-                    ticket,
-                })
-            }
-        }
+        let mut lent = Lent {
+            sheet,
+            tape,
+            lines: 0,
+        };
+        let routed = self.state.enter(rule, order, &mut lent)?;
+        let ticket = ticket_for(routed, series, order.id);
+        Ok(Accepted {
+            lines: lent.lines,
+            ticket,
+        })
     }
 
     // Changes the size of a firm's resting order, and answers the new size. A smaller or an equal size keeps the order's time; a
     // larger one gives it a new time.
     pub fn resize(&mut self, id: u64, firm: u16, size: u32) -> Result<u32, Refusal>
-        ensures outcome { Settles (resize_of (record { id = id; firm = firm; size = size }) (model self.old.state)) (model self.old.state) result (model self.new.state) (λ d a. a ≡ d.answer) }
-        ensures lawful { StaysLawful (model self.old.state) (resizes (record { id = id; firm = firm; size = size })) }
+        ensures outcome { Settles (resize_of (record { id = id; firm = firm; size = size }) self.old) self.old result self.new (λ d a. a ≡ d.answer) }
+        ensures lawful { StaysLawful self.old (resizes (record { id = id; firm = firm; size = size })) }
     {
-        resize(&mut self.state, id, firm, size)
+        self.state.resize(id, firm, size)
     }
 
     // Takes a firm's resting order off the book, and answers the contracts that it had.
     pub fn cancel(&mut self, id: u64, firm: u16) -> Result<u32, Refusal>
-        ensures outcome { Settles (cancel_of (record { id = id; firm = firm }) (model self.old.state)) (model self.old.state) result (model self.new.state) (λ d a. a ≡ d.answer) }
-        ensures lawful { StaysLawful (model self.old.state) (cancels (record { id = id; firm = firm })) }
+        ensures outcome { Settles (cancel_of (record { id = id; firm = firm }) self.old) self.old result self.new (λ d a. a ≡ d.answer) }
+        ensures lawful { StaysLawful self.old (cancels (record { id = id; firm = firm })) }
     {
-        cancel(&mut self.state, id, firm)
+        self.state.cancel(id, firm)
     }
 
     // Gives a ticket back with the contracts that were executed away. The rest of the order trades again, with its old cap and
@@ -188,50 +166,49 @@ impl<'a> Book<'a> {
         sheet: &mut [Claim],
         tape: &mut [Line],
     ) -> Result<usize, NotReturned>
-        ensures outcome { ReturnsAs (return_of (R.meaning rule.now) (record { series = ticket.series; id = ticket.id; executed = executed; tape = length tape.old; sheet = length sheet.old }) (model self.old.state)) (model self.old.state) ticket result (model self.new.state) }
-        ensures tape { tape.new ≡ taped (return_of (R.meaning rule.now) (record { series = ticket.series; id = ticket.id; executed = executed; tape = length tape.old; sheet = length sheet.old }) (model self.old.state)) tape.old }
+        ensures outcome { ReturnsAs (return_of (R.meaning rule.now) (record { series = ticket.series; id = ticket.id; executed = executed; tape = length tape.old; sheet = length sheet.old }) self.old) self.old ticket result self.new }
+        ensures tape { tape.new ≡ taped (return_of (R.meaning rule.now) (record { series = ticket.series; id = ticket.id; executed = executed; tape = length tape.old; sheet = length sheet.old }) self.old) tape.old }
         ensures sheet { is_ok result ≡ false → sheet.new ≡ sheet.old }
         ensures length { length sheet.new ≡ length sheet.old }
-        ensures lawful { (keeps : Lawful (R.meaning rule.now)) → StaysLawful (model self.old.state) (returns (record { shares = R.meaning rule.now; keeps = keeps }) (record { series = ticket.series; id = ticket.id; executed = executed; tape = length tape.old; sheet = length sheet.old })) }
+        ensures lawful { (keeps : Lawful (R.meaning rule.now)) → StaysLawful self.old (returns (record { shares = R.meaning rule.now; keeps = keeps }) (record { series = ticket.series; id = ticket.id; executed = executed; tape = length tape.old; sheet = length sheet.old })) }
     {
-        let Ticket { series, id } = ticket;
-        match give_back(&mut self.state, rule, series, id, executed, sheet, tape) {
-            Err(refusal) => Err(NotReturned {
-                refusal,
-                ticket: Ticket { series, id },
-            }),
-            Ok(traded) => Ok(traded.lines),
+        let mut lent = Lent {
+            sheet,
+            tape,
+            lines: 0,
+        };
+        if let Err(refusal) = self.state.give_back(rule, &ticket, executed, &mut lent) {
+            return Err(NotReturned { refusal, ticket });
         }
+        let Ticket { series: _, id: _ } = ticket;
+        Ok(lent.lines)
     }
 
     // The best price on a side of the book.
     pub fn best(&self, side: Side) -> Option<u32>
-        ensures { result ≡ best (entries side (model self.now.state)) }
+        ensures { result ≡ best (entries side self.now) }
     {
-        best_on(&self.state, side)
+        self.state.side(side).best()
     }
 
     // The national best price on a side: the better of the book's and the away price.
     pub fn national_best(&self, side: Side) -> Option<u32>
-        ensures { result ≡ national_best side (model self.now.state) }
+        ensures { result ≡ national_best side self.now }
     {
-        national_best(&self.state, side)
+        self.state.side(side).national_best()
     }
 
     // The number of entries on a side.
     pub fn count(&self, side: Side) -> usize
-        ensures { result ≡ length (entries side (model self.now.state)) }
+        ensures { result ≡ length (entries side self.now) }
     {
-        match side {
-            Side::Buy => self.state.bid_count,
-            Side::Sell => self.state.offer_count,
-        }
+        self.state.side(side).entries().len()
     }
 
     // The number of orders out.
     pub fn count_out(&self) -> usize
-        ensures { result ≡ length (model self.now.state).out }
+        ensures { result ≡ length self.now.out }
     {
-        self.state.out_count
+        self.state.out.len()
     }
 }

@@ -1,8 +1,8 @@
 // The book of one series and its public calls.
 #![tactic(auto)]
 
+mod book_side;
 mod cancel;
-mod edits;
 mod ending;
 mod entry;
 mod entry_checks;
@@ -10,7 +10,6 @@ mod find;
 mod keeping;
 mod market;
 mod resize;
-mod rest;
 mod returning;
 mod state;
 mod ticket;

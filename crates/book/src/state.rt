@@ -1,24 +1,113 @@
-// What the book keeps: two sides in places that the host lends, the orders out, away prices and counters.
-use rules::{Entry, Routed};
+// What the book keeps: two sides in places that the host lends, the orders out, the counters, and what it was opened with.
+ghost use Rattle.std.specs.Prelude.{◌≡◌, ◌<◌, length, slice_index_or, slice_set};
+ghost use Rattle.std.specs.List.{remove};
+ghost use Rattle.rules.specs.Calls.{opened};
+ghost use Rattle.rules.specs.Model.{entries, places, with_entries, with_away, with_last_time, ranked_in};
+ghost use Rattle.rules.specs.Ranks.{rank_of};
+ghost use Rattle.book.specs.Sides.{one_side};
 
-// The highest id and the last working time.
-#[derive(Clone, Copy)]
-pub struct Counters {
+use crate::book_side::BookSide;
+use arrayvec::ArrayVec;
+use rules::{Entry, Routed, Side};
+use std::marker::Model;
+
+// Stays apart from `Book`, which is sound at every call: between the steps of a call the book need not be, and a function
+// that needs it sound asks for that.
+#[derive(Drop)]
+pub(crate) struct State<'a> {
+    pub bids: BookSide<'a>,
+    pub offers: BookSide<'a>,
+    pub out: ArrayVec<Routed, 16>,
     pub last_id: u64,
     pub last_time: u32,
-}
-
-#[derive(Drop)]
-pub struct State<'a> {
-    pub bids: &'a mut [Entry],
-    pub bid_count: usize,
-    pub offers: &'a mut [Entry],
-    pub offer_count: usize,
-    pub out: [Routed; 16],
-    pub out_count: usize,
-    pub away_bid: Option<u32>,
-    pub away_offer: Option<u32>,
-    pub counters: Counters,
     pub tick: u32,
     pub series: u32,
+}
+
+impl<'a> Model for State<'a> {
+    ghost use Rattle.rules.specs.Model as rulebook;
+    ghost use Rattle.book.specs.Books.{model, TwoSides};
+
+    ghost Value = { rulebook.Model };
+
+    ghost view = { model };
+
+    ghost invariant = { TwoSides };
+}
+
+impl<'a> State<'a> {
+    // Without entries, orders out or away prices.
+    pub(crate) fn new(
+        bids: &'a mut [Entry],
+        offers: &'a mut [Entry],
+        tick: u32,
+        series: u32,
+    ) -> Self
+        ensures { result ≡ opened (record { bid_places = length bids.old; offer_places = length offers.old; tick = tick; series = series }) }
+    {
+        State {
+            bids: BookSide::new(Side::Buy, bids),
+            offers: BookSide::new(Side::Sell, offers),
+            out: ArrayVec::new(),
+            last_id: 0,
+            last_time: 0,
+            tick,
+            series,
+        }
+    }
+
+    pub(crate) fn side(&self, side: Side) -> &BookSide<'a>
+        ensures { result.now ≡ one_side side self.now }
+    {
+        match side {
+            Side::Buy => &self.bids,
+            Side::Sell => &self.offers,
+        }
+    }
+}
+
+// Stays a match on the side in each of these: of a `&mut` lent into one of two fields by a function of its own no proof was found.
+impl State<'_> {
+    // An entry comes to its place on a side, and its working time is the last.
+    pub(crate) fn insert(&mut self, side: Side, e: Entry)
+        requires { length (entries side self.old) < places side self.old }
+        ensures { self.new ≡ with_last_time e.time (with_entries side (ranked_in side e (entries side self.old)) self.old) }
+    {
+        self.last_time = e.time;
+        match side {
+            Side::Buy => self.bids.insert(e),
+            Side::Sell => self.offers.insert(e),
+        }
+    }
+
+    pub(crate) fn remove(&mut self, side: Side, at: usize)
+        requires { at < length (entries side self.old) }
+        ensures { self.new ≡ with_entries side (remove (entries side self.old) at) self.old }
+    {
+        match side {
+            Side::Buy => self.bids.remove(at),
+            Side::Sell => self.offers.remove(at),
+        }
+    }
+
+    // Another entry of the same rank stands in the place of one.
+    pub(crate) fn replace(&mut self, side: Side, at: usize, e: Entry)
+        requires within { at < length (entries side self.old) }
+        requires rank { rank_of e ≡ rank_of (slice_index_or (entries side self.old) at e) }
+        ensures { self.new ≡ with_entries side (slice_set (entries side self.old) at e) self.old }
+    {
+        match side {
+            Side::Buy => self.bids.replace(at, e),
+            Side::Sell => self.offers.replace(at, e),
+        }
+    }
+
+    pub(crate) fn set_away(&mut self, side: Side, price: Option<u32>)
+        ensures { self.new ≡ with_away side price self.old }
+    {
+        match side {
+            Side::Buy => self.bids.set_away(price),
+            Side::Sell => self.offers.set_away(price),
+        }
+    }
 }

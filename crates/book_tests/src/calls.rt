@@ -1,54 +1,38 @@
 // Calls one after another: a whole history, size changes, cancels, and returns from a route.
-use crate::desk::{
-    NO_ENTRY, back, book_of, cancel, enter, keep, market, refuse, resize, rest, route,
-};
+use crate::desk::{Desk, NO_ENTRY};
 use crate::orders::{bid, buy_now, day, marked, offer, routable};
 use crate::rows::Row;
 use rules::{Kind, Side};
-use std::test::Fail;
 
 // The worked history of docs/promises.md.
 #[test]
-fn worked_history(rt: HostRuntime) -> Result<(), Fail> {
+fn worked_history(rt: HostRuntime) {
     let mut bids = [NO_ENTRY; 8];
     let mut offers = [NO_ENTRY; 8];
-    let b = &mut book_of(&mut bids, &mut offers, 5, 1);
-    rest(
-        &rt,
-        b,
+    let mut desk = Desk::open(&rt, &mut bids, &mut offers, 5, 1);
+    desk.rest(
         marked(day(1, 11, Kind::MakerQuote, Side::Sell, 105, 100)),
         105,
-    )?;
-    rest(
-        &rt,
-        b,
-        day(2, 12, Kind::SpecialistQuote, Side::Sell, 105, 60),
-        105,
-    )?;
-    rest(&rt, b, day(3, 21, Kind::Customer, Side::Sell, 110, 30), 110)?;
-    enter(
-        &rt,
-        b,
+    );
+    desk.rest(day(2, 12, Kind::SpecialistQuote, Side::Sell, 105, 60), 105);
+    desk.rest(day(3, 21, Kind::Customer, Side::Sell, 110, 30), 110);
+    desk.enter(
         buy_now(4, 22, 105, 100),
         &[
             Row::Fill(2, 12, 40, 105, 4),
             Row::Fill(1, 11, 60, 105, 5),
             Row::Filled(4, 22),
         ],
-    )?;
-    resize(&rt, b, 1, 11, 25)?;
-    resize(&rt, b, 2, 12, 50)?;
-    market(&rt, b, Side::Sell, Some(100), 0);
-    let out = route(
-        &rt,
-        b,
+    );
+    desk.resize(1, 11, 25, Ok(25));
+    desk.resize(2, 12, 50, Ok(50));
+    desk.market(Side::Sell, Some(100), Ok(()));
+    let out = desk.route(
         routable(day(5, 23, Kind::Customer, Side::Buy, 105, 40)),
         &[Row::Route(5, 23, 40)],
-    )?;
-    market(&rt, b, Side::Sell, None, 0);
-    back(
-        &rt,
-        b,
+    );
+    desk.market(Side::Sell, None, Ok(()));
+    desk.back(
         out,
         15,
         &[
@@ -56,159 +40,116 @@ fn worked_history(rt: HostRuntime) -> Result<(), Fail> {
             Row::Fill(1, 11, 9, 105, 5),
             Row::Filled(5, 23),
         ],
-    )?;
-    cancel(&rt, b, 2, 12, 34)?;
-    enter(
-        &rt,
-        b,
+    );
+    desk.cancel(2, 12, Ok(34));
+    desk.enter(
         marked(buy_now(6, 11, 105, 5)),
         &[Row::Cancel(1, 11, 16, 1), Row::Cancel(6, 11, 5, 2)],
-    )?;
-    refuse(&rt, b, marked(buy_now(6, 11, 105, 5)), 21)?;
-    cancel(&rt, b, 3, 21, 30)
+    );
+    desk.refuse(marked(buy_now(6, 11, 105, 5)), 21);
+    desk.cancel(3, 21, Ok(30));
 }
 
 // Three customers at one price trade by time: a smaller and an equal size keep it, a larger one loses it.
 #[test]
-fn size_changes(rt: HostRuntime) -> Result<(), Fail> {
+fn size_changes(rt: HostRuntime) {
     let mut bids = [NO_ENTRY; 8];
     let mut offers = [NO_ENTRY; 8];
-    let b = &mut book_of(&mut bids, &mut offers, 5, 1);
-    rest(&rt, b, day(1, 1, Kind::Customer, Side::Sell, 105, 10), 105)?;
-    rest(&rt, b, day(2, 2, Kind::Customer, Side::Sell, 105, 10), 105)?;
-    rest(&rt, b, day(3, 3, Kind::Customer, Side::Sell, 105, 10), 105)?;
-    resize(&rt, b, 1, 1, 5)?;
-    resize(&rt, b, 2, 2, 10)?;
-    enter(
-        &rt,
-        b,
+    let mut desk = Desk::open(&rt, &mut bids, &mut offers, 5, 1);
+    desk.rest(day(1, 1, Kind::Customer, Side::Sell, 105, 10), 105);
+    desk.rest(day(2, 2, Kind::Customer, Side::Sell, 105, 10), 105);
+    desk.rest(day(3, 3, Kind::Customer, Side::Sell, 105, 10), 105);
+    desk.resize(1, 1, 5, Ok(5));
+    desk.resize(2, 2, 10, Ok(10));
+    desk.enter(
         buy_now(4, 4, 105, 6),
         &[
             Row::Fill(1, 1, 5, 105, 3),
             Row::Fill(2, 2, 1, 105, 3),
             Row::Filled(4, 4),
         ],
-    )?;
-    resize(&rt, b, 2, 2, 20)?;
-    enter(
-        &rt,
-        b,
+    );
+    desk.resize(2, 2, 20, Ok(20));
+    desk.enter(
         buy_now(5, 4, 105, 12),
         &[
             Row::Fill(3, 3, 10, 105, 3),
             Row::Fill(2, 2, 2, 105, 3),
             Row::Filled(5, 4),
         ],
-    )?;
-    cancel(&rt, b, 2, 2, 18)
+    );
+    desk.cancel(2, 2, Ok(18));
 }
 
 // More executed than was routed is refused, and the ticket is good for less. All executed away fills the order.
 #[test]
-fn returns(rt: HostRuntime) -> Result<(), Fail> {
+fn returns(rt: HostRuntime) {
     let mut bids = [NO_ENTRY; 8];
     let mut offers = [NO_ENTRY; 8];
-    let b = &mut book_of(&mut bids, &mut offers, 5, 1);
-    market(&rt, b, Side::Sell, Some(100), 0);
-    let out = route(
-        &rt,
-        b,
-        routable(bid(1, 1, 105, 10)),
-        &[Row::Route(1, 1, 10)],
-    )?;
-    let out = keep(&rt, b, out, 11, 42)?;
-    let out = keep(&rt, b, out, 4294967295, 42)?;
-    back(&rt, b, out, 10, &[Row::Filled(1, 1)])?;
+    let mut desk = Desk::open(&rt, &mut bids, &mut offers, 5, 1);
+    desk.market(Side::Sell, Some(100), Ok(()));
+    let out = desk.route(routable(bid(1, 1, 105, 10)), &[Row::Route(1, 1, 10)]);
+    let out = desk.keep(out, 11, 42);
+    let out = desk.keep(out, 4294967295, 42);
+    desk.back(out, 10, &[Row::Filled(1, 1)]);
     // what comes back may not go out again: the away price is still within its cap
-    let out = route(
-        &rt,
-        b,
-        routable(bid(2, 2, 105, 10)),
-        &[Row::Route(2, 2, 10)],
-    )?;
-    back(&rt, b, out, 3, &[Row::Cancel(2, 2, 7, 4)])?;
+    let out = desk.route(routable(bid(2, 2, 105, 10)), &[Row::Route(2, 2, 10)]);
+    desk.back(out, 3, &[Row::Cancel(2, 2, 7, 4)]);
     // an immediate one is cancelled as such
-    let out = route(
-        &rt,
-        b,
-        routable(buy_now(3, 3, 105, 10)),
-        &[Row::Route(3, 3, 10)],
-    )?;
-    back(&rt, b, out, 3, &[Row::Cancel(3, 3, 7, 2)])?;
+    let out = desk.route(routable(buy_now(3, 3, 105, 10)), &[Row::Route(3, 3, 10)]);
+    desk.back(out, 3, &[Row::Cancel(3, 3, 7, 2)]);
     // an away price above the cap lets it rest
-    let out = route(
-        &rt,
-        b,
-        routable(bid(4, 4, 105, 10)),
-        &[Row::Route(4, 4, 10)],
-    )?;
-    market(&rt, b, Side::Sell, Some(110), 0);
-    back(&rt, b, out, 3, &[Row::Rest(4, 4, 7, 105)])
+    let out = desk.route(routable(bid(4, 4, 105, 10)), &[Row::Route(4, 4, 10)]);
+    desk.market(Side::Sell, Some(110), Ok(()));
+    desk.back(out, 3, &[Row::Rest(4, 4, 7, 105)]);
 }
 
 // Some trade here at an equal away price, and the rest goes out.
 #[test]
-fn trades_and_goes_out(rt: HostRuntime) -> Result<(), Fail> {
+fn trades_and_goes_out(rt: HostRuntime) {
     let mut bids = [NO_ENTRY; 8];
     let mut offers = [NO_ENTRY; 8];
-    let b = &mut book_of(&mut bids, &mut offers, 5, 1);
-    rest(&rt, b, offer(1, 1, 105, 4), 105)?;
-    market(&rt, b, Side::Sell, Some(105), 0);
-    let out = route(
-        &rt,
-        b,
+    let mut desk = Desk::open(&rt, &mut bids, &mut offers, 5, 1);
+    desk.rest(offer(1, 1, 105, 4), 105);
+    desk.market(Side::Sell, Some(105), Ok(()));
+    let out = desk.route(
         routable(bid(2, 2, 105, 10)),
         &[Row::Fill(1, 1, 4, 105, 5), Row::Route(2, 2, 6)],
-    )?;
-    let out = keep(&rt, b, out, 7, 42)?;
-    back(&rt, b, out, 6, &[Row::Filled(2, 2)])
+    );
+    let out = desk.keep(out, 7, 42);
+    desk.back(out, 6, &[Row::Filled(2, 2)]);
 }
 
 // The only place was taken while the order was out: what comes back is cancelled with cause 5.
 #[test]
-fn no_place_on_return(rt: HostRuntime) -> Result<(), Fail> {
+fn no_place_on_return(rt: HostRuntime) {
     let mut bids = [NO_ENTRY; 1];
     let mut offers = [NO_ENTRY; 1];
-    let b = &mut book_of(&mut bids, &mut offers, 5, 1);
-    market(&rt, b, Side::Sell, Some(100), 0);
-    let out = route(
-        &rt,
-        b,
-        routable(bid(1, 1, 105, 10)),
-        &[Row::Route(1, 1, 10)],
-    )?;
-    rest(&rt, b, bid(2, 2, 95, 5), 95)?;
-    market(&rt, b, Side::Sell, None, 0);
-    back(&rt, b, out, 4, &[Row::Cancel(1, 1, 6, 5)])
+    let mut desk = Desk::open(&rt, &mut bids, &mut offers, 5, 1);
+    desk.market(Side::Sell, Some(100), Ok(()));
+    let out = desk.route(routable(bid(1, 1, 105, 10)), &[Row::Route(1, 1, 10)]);
+    desk.rest(bid(2, 2, 95, 5), 95);
+    desk.market(Side::Sell, None, Ok(()));
+    desk.back(out, 4, &[Row::Cancel(1, 1, 6, 5)]);
 }
 
 // A ticket is good in its own series only, and while its order is out.
 #[test]
-fn ticket_of_another_book(rt: HostRuntime) -> Result<(), Fail> {
+fn ticket_of_another_book(rt: HostRuntime) {
     let mut bids = [NO_ENTRY; 1];
     let mut offers = [NO_ENTRY; 1];
-    let b = &mut book_of(&mut bids, &mut offers, 5, 1);
+    let mut desk = Desk::open(&rt, &mut bids, &mut offers, 5, 1);
     let mut more_bids = [NO_ENTRY; 1];
     let mut more_offers = [NO_ENTRY; 1];
-    let two = &mut book_of(&mut more_bids, &mut more_offers, 5, 2);
-    market(&rt, b, Side::Sell, Some(100), 0);
-    market(&rt, two, Side::Sell, Some(100), 0);
-    let out = route(
-        &rt,
-        b,
-        routable(bid(1, 1, 105, 10)),
-        &[Row::Route(1, 1, 10)],
-    )?;
-    let out = keep(&rt, two, out, 0, 41)?;
+    let mut other_desk = Desk::open(&rt, &mut more_bids, &mut more_offers, 5, 2);
+    desk.market(Side::Sell, Some(100), Ok(()));
+    other_desk.market(Side::Sell, Some(100), Ok(()));
+    let out = desk.route(routable(bid(1, 1, 105, 10)), &[Row::Route(1, 1, 10)]);
+    let out = other_desk.keep(out, 0, 41);
     // the other series has an order of the same number out
-    let other = route(
-        &rt,
-        two,
-        routable(bid(1, 1, 105, 20)),
-        &[Row::Route(1, 1, 20)],
-    )?;
-    let out = keep(&rt, two, out, 0, 41)?;
-    let other = keep(&rt, b, other, 0, 41)?;
-    back(&rt, b, out, 10, &[Row::Filled(1, 1)])?;
-    back(&rt, two, other, 20, &[Row::Filled(1, 1)])
+    let other = other_desk.route(routable(bid(1, 1, 105, 20)), &[Row::Route(1, 1, 20)]);
+    let out = other_desk.keep(out, 0, 41);
+    let other = desk.keep(other, 0, 41);
+    desk.back(out, 10, &[Row::Filled(1, 1)]);
+    other_desk.back(other, 20, &[Row::Filled(1, 1)]);
 }

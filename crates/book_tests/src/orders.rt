@@ -40,30 +40,25 @@ pub fn bid(id: u64, firm: u16, price: u32, size: u32) -> Order {
     day(id, firm, Kind::Other, Side::Buy, price, size)
 }
 
-// An immediate order to buy.
-pub fn buy_now(id: u64, firm: u16, price: u32, size: u32) -> Order {
+// An immediate order of another firm's own account.
+fn now(id: u64, firm: u16, side: Side, price: u32, size: u32) -> Order {
     of(
         id,
         firm,
         Kind::Other,
-        Side::Buy,
+        side,
         Term::ImmediateOrCancel,
         Some(price),
         size,
     )
 }
 
-// An immediate order to sell.
+pub fn buy_now(id: u64, firm: u16, price: u32, size: u32) -> Order {
+    now(id, firm, Side::Buy, price, size)
+}
+
 pub fn sell_now(id: u64, firm: u16, price: u32, size: u32) -> Order {
-    of(
-        id,
-        firm,
-        Kind::Other,
-        Side::Sell,
-        Term::ImmediateOrCancel,
-        Some(price),
-        size,
-    )
+    now(id, firm, Side::Sell, price, size)
 }
 
 pub fn market_order(id: u64, firm: u16, kind: Kind, side: Side, size: u32) -> Order {

@@ -1,25 +1,22 @@
 // What entries trade, and what becomes of what is left.
-use crate::desk::{NO_ENTRY, back, book_of, enter, enter_by, market, rest, route};
+use crate::desk::{Desk, NO_ENTRY};
 use crate::orders::{
     bid, buy_now, day, directed, marked, market_order, offer, routable, sell_now, with_least,
 };
 use crate::rows::Row;
 use rules::{Kind, Side};
 use sharing::ByTime;
-use std::test::Fail;
 
 // 200 over 100, 200 and 500 of 800 are a quarter of each.
 #[test]
-fn shares_by_size(rt: HostRuntime) -> Result<(), Fail> {
+fn shares_by_size(rt: HostRuntime) {
     let mut bids = [NO_ENTRY; 8];
     let mut offers = [NO_ENTRY; 8];
-    let b = &mut book_of(&mut bids, &mut offers, 5, 1);
-    rest(&rt, b, offer(1, 1, 105, 100), 105)?;
-    rest(&rt, b, offer(2, 2, 105, 200), 105)?;
-    rest(&rt, b, offer(3, 3, 105, 500), 105)?;
-    enter(
-        &rt,
-        b,
+    let mut desk = Desk::open(&rt, &mut bids, &mut offers, 5, 1);
+    desk.rest(offer(1, 1, 105, 100), 105);
+    desk.rest(offer(2, 2, 105, 200), 105);
+    desk.rest(offer(3, 3, 105, 500), 105);
+    desk.enter(
         buy_now(4, 4, 105, 200),
         &[
             Row::Fill(1, 1, 25, 105, 5),
@@ -27,11 +24,9 @@ fn shares_by_size(rt: HostRuntime) -> Result<(), Fail> {
             Row::Fill(3, 3, 125, 105, 5),
             Row::Filled(4, 4),
         ],
-    )?;
+    );
     // 75, 150 and 375 are left: by time, 100 are 75 of the first and 25 of the second
-    enter_by(
-        &rt,
-        b,
+    desk.enter_by(
         &ByTime,
         buy_now(5, 4, 105, 100),
         &[
@@ -39,20 +34,18 @@ fn shares_by_size(rt: HostRuntime) -> Result<(), Fail> {
             Row::Fill(2, 2, 25, 105, 5),
             Row::Filled(5, 4),
         ],
-    )
+    );
 }
 
 #[test]
-fn shares_by_size_with_a_seller(rt: HostRuntime) -> Result<(), Fail> {
+fn shares_by_size_with_a_seller(rt: HostRuntime) {
     let mut bids = [NO_ENTRY; 8];
     let mut offers = [NO_ENTRY; 8];
-    let b = &mut book_of(&mut bids, &mut offers, 5, 1);
-    rest(&rt, b, bid(1, 1, 105, 100), 105)?;
-    rest(&rt, b, bid(2, 2, 105, 200), 105)?;
-    rest(&rt, b, bid(3, 3, 105, 500), 105)?;
-    enter(
-        &rt,
-        b,
+    let mut desk = Desk::open(&rt, &mut bids, &mut offers, 5, 1);
+    desk.rest(bid(1, 1, 105, 100), 105);
+    desk.rest(bid(2, 2, 105, 200), 105);
+    desk.rest(bid(3, 3, 105, 500), 105);
+    desk.enter(
         sell_now(4, 4, 105, 200),
         &[
             Row::Fill(1, 1, 25, 105, 5),
@@ -60,43 +53,32 @@ fn shares_by_size_with_a_seller(rt: HostRuntime) -> Result<(), Fail> {
             Row::Fill(3, 3, 125, 105, 5),
             Row::Filled(4, 4),
         ],
-    )
+    );
 }
 
 // All five steps: Market Orders that came back from a route rest at their cap, 125 less 20.
 #[test]
-fn five_steps_at_a_price(rt: HostRuntime) -> Result<(), Fail> {
+fn five_steps_at_a_price(rt: HostRuntime) {
     let mut bids = [NO_ENTRY; 8];
     let mut offers = [NO_ENTRY; 8];
-    let b = &mut book_of(&mut bids, &mut offers, 5, 1);
-    market(&rt, b, Side::Buy, Some(125), 0);
-    let other = route(
-        &rt,
-        b,
+    let mut desk = Desk::open(&rt, &mut bids, &mut offers, 5, 1);
+    desk.market(Side::Buy, Some(125), Ok(()));
+    let other = desk.route(
         routable(market_order(1, 1, Kind::Other, Side::Sell, 10)),
         &[Row::Route(1, 1, 10)],
-    )?;
-    let customer = route(
-        &rt,
-        b,
+    );
+    let customer = desk.route(
         routable(market_order(2, 2, Kind::Customer, Side::Sell, 10)),
         &[Row::Route(2, 2, 10)],
-    )?;
-    market(&rt, b, Side::Buy, None, 0);
-    back(&rt, b, other, 0, &[Row::Rest(1, 1, 10, 105)])?;
-    back(&rt, b, customer, 0, &[Row::Rest(2, 2, 10, 105)])?;
-    rest(&rt, b, offer(3, 3, 105, 20), 105)?;
-    rest(
-        &rt,
-        b,
-        day(4, 4, Kind::SpecialistQuote, Side::Sell, 105, 20),
-        105,
-    )?;
-    rest(&rt, b, day(5, 5, Kind::Customer, Side::Sell, 105, 10), 105)?;
+    );
+    desk.market(Side::Buy, None, Ok(()));
+    desk.back(other, 0, &[Row::Rest(1, 1, 10, 105)]);
+    desk.back(customer, 0, &[Row::Rest(2, 2, 10, 105)]);
+    desk.rest(offer(3, 3, 105, 20), 105);
+    desk.rest(day(4, 4, Kind::SpecialistQuote, Side::Sell, 105, 20), 105);
+    desk.rest(day(5, 5, Kind::Customer, Side::Sell, 105, 10), 105);
     // 25 reach the specialist: two fifths are 10, its share of 40 shown is 12
-    enter(
-        &rt,
-        b,
+    desk.enter(
         buy_now(6, 6, 105, 55),
         &[
             Row::Fill(2, 2, 10, 105, 1),
@@ -106,31 +88,19 @@ fn five_steps_at_a_price(rt: HostRuntime) -> Result<(), Fail> {
             Row::Fill(3, 3, 13, 105, 5),
             Row::Filled(6, 6),
         ],
-    )
+    );
 }
 
 #[test]
-fn guarantee_by_direction_and_by_specialists(rt: HostRuntime) -> Result<(), Fail> {
+fn guarantee_by_direction_and_by_specialists(rt: HostRuntime) {
     let mut bids = [NO_ENTRY; 8];
     let mut offers = [NO_ENTRY; 8];
-    let b = &mut book_of(&mut bids, &mut offers, 5, 1);
-    rest(
-        &rt,
-        b,
-        day(1, 11, Kind::MakerQuote, Side::Sell, 105, 50),
-        105,
-    )?;
-    rest(
-        &rt,
-        b,
-        day(2, 12, Kind::SpecialistQuote, Side::Sell, 105, 60),
-        105,
-    )?;
-    rest(&rt, b, offer(3, 13, 105, 90), 105)?;
+    let mut desk = Desk::open(&rt, &mut bids, &mut offers, 5, 1);
+    desk.rest(day(1, 11, Kind::MakerQuote, Side::Sell, 105, 50), 105);
+    desk.rest(day(2, 12, Kind::SpecialistQuote, Side::Sell, 105, 60), 105);
+    desk.rest(offer(3, 13, 105, 90), 105);
     // directed to 11: two fifths of 100 are 40, its share of 200 shown is 25; then 60 over 60 and 90
-    enter(
-        &rt,
-        b,
+    desk.enter(
         directed(buy_now(4, 4, 105, 100), 11),
         &[
             Row::Fill(1, 11, 40, 105, 4),
@@ -138,50 +108,34 @@ fn guarantee_by_direction_and_by_specialists(rt: HostRuntime) -> Result<(), Fail
             Row::Fill(3, 13, 36, 105, 5),
             Row::Filled(4, 4),
         ],
-    )?;
+    );
     // 10, 36 and 54 are left; 13 has no quote, so the specialist has the guarantee: 4 are more than 3.6;
     // then 6 over 10 and 54 are 0 and 5, and the one left over goes to the larger
-    enter(
-        &rt,
-        b,
+    desk.enter(
         directed(buy_now(5, 4, 105, 10), 13),
         &[
             Row::Fill(2, 12, 4, 105, 4),
             Row::Fill(3, 13, 6, 105, 5),
             Row::Filled(5, 4),
         ],
-    )?;
+    );
     // 10, 32 and 48 are left: two fifths of 1 are at least 1
-    enter(
-        &rt,
-        b,
+    desk.enter(
         buy_now(6, 4, 105, 1),
         &[Row::Fill(2, 12, 1, 105, 4), Row::Filled(6, 4)],
-    )
+    );
 }
 
 // At a second price the specialist has its share alone: 30 over 10 and 90 are 3 and 27.
 #[test]
-fn no_guarantee_at_a_second_price(rt: HostRuntime) -> Result<(), Fail> {
+fn no_guarantee_at_a_second_price(rt: HostRuntime) {
     let mut bids = [NO_ENTRY; 8];
     let mut offers = [NO_ENTRY; 8];
-    let b = &mut book_of(&mut bids, &mut offers, 5, 1);
-    rest(
-        &rt,
-        b,
-        day(1, 11, Kind::SpecialistQuote, Side::Buy, 100, 20),
-        100,
-    )?;
-    rest(
-        &rt,
-        b,
-        day(2, 12, Kind::SpecialistQuote, Side::Buy, 95, 10),
-        95,
-    )?;
-    rest(&rt, b, bid(3, 13, 95, 90), 95)?;
-    enter(
-        &rt,
-        b,
+    let mut desk = Desk::open(&rt, &mut bids, &mut offers, 5, 1);
+    desk.rest(day(1, 11, Kind::SpecialistQuote, Side::Buy, 100, 20), 100);
+    desk.rest(day(2, 12, Kind::SpecialistQuote, Side::Buy, 95, 10), 95);
+    desk.rest(bid(3, 13, 95, 90), 95);
+    desk.enter(
         sell_now(4, 4, 95, 50),
         &[
             Row::Fill(1, 11, 20, 100, 4),
@@ -189,22 +143,20 @@ fn no_guarantee_at_a_second_price(rt: HostRuntime) -> Result<(), Fail> {
             Row::Fill(3, 13, 27, 95, 5),
             Row::Filled(4, 4),
         ],
-    )
+    );
 }
 
 // Both carry the mark and have one firm: the entry goes, at a price that the order comes to and at no other.
 #[test]
-fn barred_entries(rt: HostRuntime) -> Result<(), Fail> {
+fn barred_entries(rt: HostRuntime) {
     let mut bids = [NO_ENTRY; 8];
     let mut offers = [NO_ENTRY; 8];
-    let b = &mut book_of(&mut bids, &mut offers, 5, 1);
-    rest(&rt, b, marked(offer(1, 5, 105, 10)), 105)?;
-    rest(&rt, b, marked(offer(2, 6, 105, 10)), 105)?;
-    rest(&rt, b, offer(3, 5, 105, 10), 105)?;
-    rest(&rt, b, marked(offer(4, 5, 110, 10)), 110)?;
-    enter(
-        &rt,
-        b,
+    let mut desk = Desk::open(&rt, &mut bids, &mut offers, 5, 1);
+    desk.rest(marked(offer(1, 5, 105, 10)), 105);
+    desk.rest(marked(offer(2, 6, 105, 10)), 105);
+    desk.rest(offer(3, 5, 105, 10), 105);
+    desk.rest(marked(offer(4, 5, 110, 10)), 110);
+    desk.enter(
         marked(buy_now(5, 5, 110, 20)),
         &[
             Row::Cancel(1, 5, 10, 1),
@@ -212,46 +164,38 @@ fn barred_entries(rt: HostRuntime) -> Result<(), Fail> {
             Row::Fill(3, 5, 10, 105, 5),
             Row::Filled(5, 5),
         ],
-    )?;
+    );
     // without the mark a firm trades with itself
-    enter(
-        &rt,
-        b,
+    desk.enter(
         buy_now(6, 5, 110, 4),
         &[Row::Fill(4, 5, 4, 110, 5), Row::Filled(6, 5)],
-    )
+    );
 }
 
 // 15 contracts are within reach and not barred.
 #[test]
-fn least_size(rt: HostRuntime) -> Result<(), Fail> {
+fn least_size(rt: HostRuntime) {
     let mut bids = [NO_ENTRY; 8];
     let mut offers = [NO_ENTRY; 8];
-    let b = &mut book_of(&mut bids, &mut offers, 5, 1);
-    rest(&rt, b, offer(1, 1, 105, 10), 105)?;
-    rest(&rt, b, marked(offer(2, 2, 105, 7)), 105)?;
-    rest(&rt, b, offer(3, 3, 110, 5), 110)?;
-    rest(&rt, b, offer(4, 4, 115, 5), 115)?;
+    let mut desk = Desk::open(&rt, &mut bids, &mut offers, 5, 1);
+    desk.rest(offer(1, 1, 105, 10), 105);
+    desk.rest(marked(offer(2, 2, 105, 7)), 105);
+    desk.rest(offer(3, 3, 110, 5), 110);
+    desk.rest(offer(4, 4, 115, 5), 115);
     // missed by one: nothing else happens, and the barred entry stays
-    enter(
-        &rt,
-        b,
+    desk.enter(
         with_least(marked(buy_now(5, 2, 110, 20)), 16),
         &[Row::Cancel(5, 2, 20, 3)],
-    )?;
+    );
     // an away price puts the second price out of reach
-    market(&rt, b, Side::Sell, Some(105), 0);
-    enter(
-        &rt,
-        b,
+    desk.market(Side::Sell, Some(105), Ok(()));
+    desk.enter(
         with_least(marked(buy_now(6, 2, 110, 20)), 11),
         &[Row::Cancel(6, 2, 20, 3)],
-    )?;
-    market(&rt, b, Side::Sell, None, 0);
+    );
+    desk.market(Side::Sell, None, Ok(()));
     // reached exactly
-    enter(
-        &rt,
-        b,
+    desk.enter(
         with_least(marked(buy_now(7, 2, 110, 20)), 15),
         &[
             Row::Cancel(2, 2, 7, 1),
@@ -259,107 +203,93 @@ fn least_size(rt: HostRuntime) -> Result<(), Fail> {
             Row::Fill(3, 3, 5, 110, 5),
             Row::Cancel(7, 2, 5, 2),
         ],
-    )
+    );
 }
 
 // The reference is 100, so a buyer's collar is 120.
 #[test]
-fn collar_of_a_buyer(rt: HostRuntime) -> Result<(), Fail> {
+fn collar_of_a_buyer(rt: HostRuntime) {
     let mut bids = [NO_ENTRY; 8];
     let mut offers = [NO_ENTRY; 8];
-    let b = &mut book_of(&mut bids, &mut offers, 1, 1);
-    rest(&rt, b, offer(1, 1, 100, 10), 100)?;
-    rest(&rt, b, offer(2, 2, 120, 10), 120)?;
-    rest(&rt, b, offer(3, 3, 121, 10), 121)?;
-    enter(
-        &rt,
-        b,
+    let mut desk = Desk::open(&rt, &mut bids, &mut offers, 1, 1);
+    desk.rest(offer(1, 1, 100, 10), 100);
+    desk.rest(offer(2, 2, 120, 10), 120);
+    desk.rest(offer(3, 3, 121, 10), 121);
+    desk.enter(
         bid(4, 4, 300, 40),
         &[
             Row::Fill(1, 1, 10, 100, 5),
             Row::Fill(2, 2, 10, 120, 5),
             Row::Rest(4, 4, 20, 120),
         ],
-    )
+    );
 }
 
 // The reference is 201, so a seller's collar is 171.
 #[test]
-fn collar_of_a_seller(rt: HostRuntime) -> Result<(), Fail> {
+fn collar_of_a_seller(rt: HostRuntime) {
     let mut bids = [NO_ENTRY; 8];
     let mut offers = [NO_ENTRY; 8];
-    let b = &mut book_of(&mut bids, &mut offers, 1, 1);
-    rest(&rt, b, bid(1, 1, 201, 10), 201)?;
-    rest(&rt, b, bid(2, 2, 171, 10), 171)?;
-    rest(&rt, b, bid(3, 3, 170, 10), 170)?;
-    enter(
-        &rt,
-        b,
+    let mut desk = Desk::open(&rt, &mut bids, &mut offers, 1, 1);
+    desk.rest(bid(1, 1, 201, 10), 201);
+    desk.rest(bid(2, 2, 171, 10), 171);
+    desk.rest(bid(3, 3, 170, 10), 170);
+    desk.enter(
         market_order(4, 4, Kind::Customer, Side::Sell, 40),
         &[
             Row::Fill(1, 1, 10, 201, 5),
             Row::Fill(2, 2, 10, 171, 5),
             Row::Rest(4, 4, 20, 171),
         ],
-    )?;
-    enter(
-        &rt,
-        b,
+    );
+    desk.enter(
         buy_now(5, 5, 171, 20),
         &[Row::Fill(4, 4, 20, 171, 1), Row::Filled(5, 5)],
-    )
+    );
 }
 
 // An away offer that is equal to the offer at 105, better, and worse.
 #[test]
-fn away_offers(rt: HostRuntime) -> Result<(), Fail> {
+fn away_offers(rt: HostRuntime) {
     let mut bids = [NO_ENTRY; 8];
     let mut offers = [NO_ENTRY; 8];
-    let b = &mut book_of(&mut bids, &mut offers, 5, 1);
-    rest(&rt, b, offer(1, 1, 105, 30), 105)?;
-    market(&rt, b, Side::Sell, Some(105), 0);
-    enter(
-        &rt,
-        b,
+    let mut desk = Desk::open(&rt, &mut bids, &mut offers, 5, 1);
+    desk.rest(offer(1, 1, 105, 30), 105);
+    desk.market(Side::Sell, Some(105), Ok(()));
+    desk.enter(
         bid(2, 2, 105, 40),
         &[Row::Fill(1, 1, 30, 105, 5), Row::Cancel(2, 2, 10, 4)],
-    )?;
-    market(&rt, b, Side::Sell, Some(100), 0);
-    rest(&rt, b, offer(3, 3, 105, 10), 105)?;
-    enter(&rt, b, bid(4, 4, 105, 10), &[Row::Cancel(4, 4, 10, 4)])?;
-    enter(&rt, b, buy_now(5, 5, 105, 10), &[Row::Cancel(5, 5, 10, 2)])?;
-    market(&rt, b, Side::Sell, Some(110), 0);
-    enter(
-        &rt,
-        b,
+    );
+    desk.market(Side::Sell, Some(100), Ok(()));
+    desk.rest(offer(3, 3, 105, 10), 105);
+    desk.enter(bid(4, 4, 105, 10), &[Row::Cancel(4, 4, 10, 4)]);
+    desk.enter(buy_now(5, 5, 105, 10), &[Row::Cancel(5, 5, 10, 2)]);
+    desk.market(Side::Sell, Some(110), Ok(()));
+    desk.enter(
         bid(6, 6, 105, 15),
         &[Row::Fill(3, 3, 10, 105, 5), Row::Rest(6, 6, 5, 105)],
-    )
+    );
 }
 
 // The same with bids.
 #[test]
-fn away_bids(rt: HostRuntime) -> Result<(), Fail> {
+fn away_bids(rt: HostRuntime) {
     let mut bids = [NO_ENTRY; 8];
     let mut offers = [NO_ENTRY; 8];
-    let b = &mut book_of(&mut bids, &mut offers, 5, 1);
-    rest(&rt, b, bid(1, 1, 105, 30), 105)?;
-    market(&rt, b, Side::Buy, Some(105), 0);
-    enter(
-        &rt,
-        b,
+    let mut desk = Desk::open(&rt, &mut bids, &mut offers, 5, 1);
+    desk.rest(bid(1, 1, 105, 30), 105);
+    desk.market(Side::Buy, Some(105), Ok(()));
+    desk.enter(
         offer(2, 2, 105, 40),
         &[Row::Fill(1, 1, 30, 105, 5), Row::Cancel(2, 2, 10, 4)],
-    )?;
-    market(&rt, b, Side::Buy, Some(110), 0);
-    rest(&rt, b, bid(3, 3, 105, 10), 105)?;
-    enter(&rt, b, offer(4, 4, 105, 10), &[Row::Cancel(4, 4, 10, 4)])?;
-    enter(&rt, b, sell_now(5, 5, 105, 10), &[Row::Cancel(5, 5, 10, 2)])?;
-    market(&rt, b, Side::Buy, Some(100), 0);
-    enter(
-        &rt,
-        b,
+    );
+    desk.market(Side::Buy, Some(110), Ok(()));
+    desk.rest(bid(3, 3, 105, 10), 105);
+    desk.enter(offer(4, 4, 105, 10), &[Row::Cancel(4, 4, 10, 4)]);
+    desk.enter(sell_now(5, 5, 105, 10), &[Row::Cancel(5, 5, 10, 2)]);
+    desk.market(Side::Buy, Some(100), Ok(()));
+    desk.enter(
         offer(6, 6, 105, 15),
         &[Row::Fill(3, 3, 10, 105, 5), Row::Rest(6, 6, 5, 105)],
-    )
+    );
 }

@@ -1,11 +1,10 @@
 -- Fills written and contracts taken off, one entry after another. Assumes nothing.
-use Rattle.std.proofs.Common.{◌≡◌, ℕ, ◌+◌, ◌-◌, ◌<◌, ◌≤◌, Bool, true, false, cond, ltb, List, [], ◌∷◌, ◌++◌, map, length, get_or, take, drop, set, filter, sym, refl, ap, ◌∙◌, subst, arith}
+use Rattle.std.proofs.Common.{◌≡◌, ℕ, ◌+◌, ◌-◌, ◌<◌, ◌≤◌, Bool, true, false, cond, ◌&&◌, ltb, List, [], ◌∷◌, ◌++◌, map, length, get_or, take, drop, set, filter, sym, refl, ap, ◌∙◌, subst, arith}
 use Rattle.std.specs.List.{AllZip}
 use Rattle.std.proofs.lemmas.List.Elements.{filter-append}
-use Rattle.std.proofs.lemmas.List.{append-nil, append_assoc, length-map, length-append, take_all, take-append-drop, take_more, take_more_set, drop_all, length-drop, drop_more, drop-drop, drop-set-lt, get_or-map}
-use Rattle.std.proofs.lemmas.Bool.{lt-ltb, le-ltb}
+use Rattle.std.proofs.lemmas.List.{append-nil, append_assoc, length-map, length-append, take_all, take_more, take-map, take_more_set, drop_all, drop-drop, length-drop, drop_more, drop-set-lt, get_or-map}
+use Rattle.std.proofs.lemmas.Bool.{cond_both, cond-true, cond-false, lt-ltb}
 use Rattle.std.proofs.lemmas.Bool.Decides.{nat_tests}
-use Rattle.sharing.specs.declared.claims.Claim.{Claim}
 use Rattle.sharing.specs.Claims.{allotment_of}
 use Rattle.sharing.specs.Allotted.{no_claim}
 use Rattle.rules.specs.declared.tape.Line.{Line}
@@ -13,17 +12,11 @@ use Rattle.rules.specs.declared.tape.Line.TheVariants.{Fill}
 use Rattle.rules.specs.declared.tape.Step.{Step}
 use Rattle.rules.specs.declared.terms.Entry.{Entry}
 use Rattle.rules.specs.Level.{size_of, first_or_0, but_first, spread, resized, left_after, fills}
-use Rattle.matching.specs.Parts.{is_live, live}
-use Rattle.matching.specs.Tapes.{written}
-use Rattle.matching.proofs.Gathered.{no_entry}
-
--- the entries es and the numbers ns are to come: with what is done they make the run, the lines and the place at the end
-pub record Rest (t : Entry → Bool) (k : Step) (all_run : List Entry) (all_lines : List Line) (end : ℕ) (ns : List ℕ) (es done : List Entry) (lines : List Line) (at : ℕ) : Type 0 where
-  pub run : done ++ left_after (spread t ns es) es ≡ all_run
-  pub tape : lines ++ fills k (spread t ns es) es ≡ all_lines
-  pub place : at + length (fills k (spread t ns es) es) ≡ end
-  pub claims : length (filter t es) ≤ length ns
-  pub within : AllZip ◌≤◌ (take (length (filter t es)) ns) (map size_of (filter t es))
+use Rattle.matching.specs.declared.lent.Lent.{Lent}
+use Rattle.matching.specs.Parts.{is_live, live, takes_part}
+use Rattle.matching.specs.Tapes.{Writes}
+use Rattle.matching.proofs.Runs.{no_entry}
+use Rattle.matching.proofs.Written.{writes_none, writes_twice, length_after}
 
 -- the line of a fill
 abbrev pub fill : Step → ℕ → Entry → Line
@@ -42,230 +35,229 @@ one_left n e ns es =
     ∙ one_more (ltb 0 (e.size - n)) (resized (e.size - n) e) (left_after ns es)
 
 -- an entry that gave nothing is as it was
-unchanged : (e : Entry) → is_live e ≡ true → live (resized (e.size - 0) e ∷ []) ≡ e ∷ []
-unchanged e here = let same : e.size - 0 ≡ e.size = omega arith in ap (λ n. live (resized n e ∷ [])) same ∙ ap (λ b. cond b (e ∷ []) []) here
+unchanged : (e : Entry) → live (resized (e.size - 0) e ∷ []) ≡ live (e ∷ [])
+unchanged e = let same : e.size - 0 ≡ e.size = omega arith in ap (λ n. live (resized n e ∷ [])) same
 
-module _ (t : Entry → Bool) (e : Entry) (es : List Entry) where
-  spread_has : (n : ℕ) (ns : List ℕ) → t e ≡ true → spread t (n ∷ ns) (e ∷ es) ≡ n ∷ spread t ns es
-  spread_has n ns has = ap (λ b. cond b (n ∷ spread t ns es) (0 ∷ spread t (n ∷ ns) es)) has
+-- what a step leaves of entries, where those who pass share the numbers, and the lines of its fills
+abbrev pub left_of : (Entry → Bool) → List ℕ → List Entry → List Entry
+left_of t ns es = left_after (spread t ns es) es
 
-  spread_other : (ns : List ℕ) → t e ≡ false → spread t ns (e ∷ es) ≡ 0 ∷ spread t ns es
-  spread_other ns other = ap (λ b. cond b (first_or_0 ns ∷ spread t (but_first ns) es) (0 ∷ spread t ns es)) other
+abbrev pub lines_of : Step → (Entry → Bool) → List ℕ → List Entry → List Line
+lines_of k t ns es = fills k (spread t ns es) es
 
-  kept_has : t e ≡ true → filter t (e ∷ es) ≡ e ∷ filter t es
-  kept_has has = ap (λ b. cond b (e ∷ filter t es) (filter t es)) has
+-- entries that are gone may be left out at the start
+module _ (t : Entry → Bool) (k : Step) where
+  left_more : (n : ℕ) (e : Entry) (ns ms : List ℕ) (es fs : List Entry) → left_after ns es ≡ left_after ms fs → left_after (n ∷ ns) (e ∷ es) ≡ left_after (n ∷ ms) (e ∷ fs)
+  left_more n e ns ms es fs same = λ i. cond (ltb n e.size) (resized (e.size - n) e ∷ same i) (same i)
 
-  kept_other : t e ≡ false → filter t (e ∷ es) ≡ filter t es
-  kept_other other = ap (λ b. cond b (e ∷ filter t es) (filter t es)) other
+  pub left_live : (ns : List ℕ) (es : List Entry) → left_of (takes_part t) ns es ≡ left_of t ns (live es)
+  left_live ns [] = refl
+  left_live ns (e ∷ es) =
+      let whole : (b : Bool) → is_live e ≡ b → left_of (takes_part t) ns (e ∷ es) ≡ left_after (cond (b && t e) (first_or_0 ns ∷ spread (takes_part t) (but_first ns) es) (0 ∷ spread (takes_part t) ns es)) (e ∷ es) = λ b h. ap (λ x. left_after (cond (x && t e) (first_or_0 ns ∷ spread (takes_part t) (but_first ns) es) (0 ∷ spread (takes_part t) ns es)) (e ∷ es)) h in
+      cond_both (is_live e) (e ∷ live es) (live es) (λ l. left_of (takes_part t) ns (e ∷ es) ≡ left_of t ns l)
+      (λ alive. whole true alive
+      ∙ elim (t e) as (λ b. left_after (cond b (first_or_0 ns ∷ spread (takes_part t) (but_first ns) es) (0 ∷ spread (takes_part t) ns es)) (e ∷ es) ≡ left_after (cond b (first_or_0 ns ∷ spread t (but_first ns) (live es)) (0 ∷ spread t ns (live es))) (e ∷ live es)) [
+        | true ↦ left_more (first_or_0 ns) e (spread (takes_part t) (but_first ns) es) (spread t (but_first ns) (live es)) es (live es) (left_live (but_first ns) es)
+        | false ↦ left_more 0 e (spread (takes_part t) ns es) (spread t ns (live es)) es (live es) (left_live ns es)
+      ])
+      (λ gone. whole false gone ∙ cond-false (is_live e) _ _ gone ∙ left_live ns es)
 
-module _ (t : Entry → Bool) (k : Step) (all_run : List Entry) (all_lines : List Line) (end : ℕ) (e : Entry) (es done : List Entry) (lines : List Line) (at : ℕ) where
+  lines_more : (n : ℕ) (e : Entry) (ns ms : List ℕ) (es fs : List Entry) → fills k ns es ≡ fills k ms fs → fills k (n ∷ ns) (e ∷ es) ≡ fills k (n ∷ ms) (e ∷ fs)
+  lines_more n e ns ms es fs same = λ i. cond (ltb 0 n) (fill k n e ∷ same i) (same i)
+
+  pub lines_live : (ns : List ℕ) (es : List Entry) → lines_of k (takes_part t) ns es ≡ lines_of k t ns (live es)
+  lines_live ns [] = refl
+  lines_live ns (e ∷ es) =
+      let whole : (b : Bool) → is_live e ≡ b → lines_of k (takes_part t) ns (e ∷ es) ≡ fills k (cond (b && t e) (first_or_0 ns ∷ spread (takes_part t) (but_first ns) es) (0 ∷ spread (takes_part t) ns es)) (e ∷ es) = λ b h. ap (λ x. fills k (cond (x && t e) (first_or_0 ns ∷ spread (takes_part t) (but_first ns) es) (0 ∷ spread (takes_part t) ns es)) (e ∷ es)) h in
+      cond_both (is_live e) (e ∷ live es) (live es) (λ l. lines_of k (takes_part t) ns (e ∷ es) ≡ lines_of k t ns l)
+      (λ alive. whole true alive
+      ∙ elim (t e) as (λ b. fills k (cond b (first_or_0 ns ∷ spread (takes_part t) (but_first ns) es) (0 ∷ spread (takes_part t) ns es)) (e ∷ es) ≡ fills k (cond b (first_or_0 ns ∷ spread t (but_first ns) (live es)) (0 ∷ spread t ns (live es))) (e ∷ live es)) [
+        | true ↦ lines_more (first_or_0 ns) e (spread (takes_part t) (but_first ns) es) (spread t (but_first ns) (live es)) es (live es) (lines_live (but_first ns) es)
+        | false ↦ lines_more 0 e (spread (takes_part t) ns es) (spread t ns (live es)) es (live es) (lines_live ns es)
+      ])
+      (λ gone. whole false gone ∙ lines_live ns es)
+
+-- the entries es and the numbers ns are to come: with what is done they make what is left and the lines at the end
+pub record Rest (k : Step) (t : Entry → Bool) (all_left : List Entry) (all_lines : List Line) (ns : List ℕ) (es done : List Entry) (lines : List Line) : Type 0 where
+  pub run : done ++ left_of t ns es ≡ all_left
+  pub tape : lines ++ lines_of k t ns es ≡ all_lines
+  pub claims : length (filter t es) ≤ length ns
+  pub within : AllZip ◌≤◌ (take (length (filter t es)) ns) (map size_of (filter t es))
+
+module _ {k : Step} {t : Entry → Bool} {all_left : List Entry} {all_lines : List Line} {e : Entry} {es done : List Entry} {lines : List Line} where
   -- an entry that does not take part
-  rest_other : (ns : List ℕ) → is_live e ≡ true → t e ≡ false → Rest t k all_run all_lines end ns (e ∷ es) done lines at → Rest t k all_run all_lines end ns es (done ++ e ∷ []) lines at
-  rest_other ns here other r = record {
-    run =
-        append_assoc done (e ∷ []) (left_after (spread t ns es) es)
-        ∙ ap (λ l. done ++ (l ++ left_after (spread t ns es) es)) (sym (unchanged e here))
-        ∙ ap (λ l. done ++ l) (sym (ap (λ l. left_after l (e ∷ es)) (spread_other t e es ns other) ∙ one_left 0 e (spread t ns es) es))
-        ∙ r.run;
-    tape = ap (λ l. lines ++ fills k l (e ∷ es)) (sym (spread_other t e es ns other)) ∙ r.tape;
-    place = ap (λ l. at + length (fills k l (e ∷ es))) (sym (spread_other t e es ns other)) ∙ r.place;
-    claims = subst (λ l. length l ≤ length ns) (kept_other t e es other) r.claims;
-    within = subst (λ l. AllZip ◌≤◌ (take (length l) ns) (map size_of l)) (kept_other t e es other) r.within;
-  }
+  rest_other : {ns : List ℕ} → t e ≡ false → Rest k t all_left all_lines ns (e ∷ es) done lines → Rest k t all_left all_lines ns es (done ++ live (e ∷ [])) lines
+  rest_other {ns} other r =
+      let spreads : spread t ns (e ∷ es) ≡ 0 ∷ spread t ns es = ap (λ b. cond b (first_or_0 ns ∷ spread t (but_first ns) es) (0 ∷ spread t ns es)) other in
+      let kept : filter t (e ∷ es) ≡ filter t es = ap (λ b. cond b (e ∷ filter t es) (filter t es)) other in
+      record {
+        run =
+            append_assoc done (live (e ∷ [])) (left_of t ns es)
+            ∙ ap (λ l. done ++ (l ++ left_of t ns es)) (sym (unchanged e))
+            ∙ ap (λ l. done ++ l) (sym (ap (λ l. left_after l (e ∷ es)) spreads ∙ one_left 0 e (spread t ns es) es))
+            ∙ r.run;
+        tape = ap (λ l. lines ++ fills k l (e ∷ es)) (sym spreads) ∙ r.tape;
+        claims = subst (λ l. length l ≤ length ns) kept r.claims;
+        within = subst (λ l. AllZip ◌≤◌ (take (length l) ns) (map size_of l)) kept r.within;
+      }
 
-  module _ (n : ℕ) (ns : List ℕ) (has : t e ≡ true) (r : Rest t k all_run all_lines end (n ∷ ns) (e ∷ es) done lines at) where
-    abbrev line : List Line
-    line = cond (ltb 0 n) (fill k n e ∷ []) []
+  -- an entry that takes part, and is given n
+  module _ {n : ℕ} {ns : List ℕ} (has : t e ≡ true) (r : Rest k t all_left all_lines (n ∷ ns) (e ∷ es) done lines) where
+    spreads : spread t (n ∷ ns) (e ∷ es) ≡ n ∷ spread t ns es
+    spreads = ap (λ b. cond b (n ∷ spread t ns es) (0 ∷ spread t (n ∷ ns) es)) has
 
-    rest_line : fills k (spread t (n ∷ ns) (e ∷ es)) (e ∷ es) ≡ line ++ fills k (spread t ns es) es
-    rest_line = ap (λ l. fills k l (e ∷ es)) (spread_has t e es n ns has) ∙ one_more (ltb 0 n) (fill k n e) (fills k (spread t ns es) es)
+    kept : filter t (e ∷ es) ≡ e ∷ filter t es
+    kept = ap (λ b. cond b (e ∷ filter t es) (filter t es)) has
 
     rest_within : (n ≤ e.size) × AllZip ◌≤◌ (take (length (filter t es)) ns) (map size_of (filter t es))
-    rest_within = subst (λ l. AllZip ◌≤◌ (take (length l) (n ∷ ns)) (map size_of l)) (kept_has t e es has) r.within
+    rest_within = subst (λ l. AllZip ◌≤◌ (take (length l) (n ∷ ns)) (map size_of l)) kept r.within
 
-    -- an entry that takes part, and is given n
-    rest_has : Rest t k all_run all_lines end ns es (done ++ live (resized (e.size - n) e ∷ [])) (lines ++ line) (at + length line)
+    rest_has : Rest k t all_left all_lines ns es (done ++ live (resized (e.size - n) e ∷ [])) (lines ++ cond (ltb 0 n) (fill k n e ∷ []) [])
     rest_has = record {
       run =
-          append_assoc done (live (resized (e.size - n) e ∷ [])) (left_after (spread t ns es) es)
-          ∙ ap (λ l. done ++ l) (sym (ap (λ l. left_after l (e ∷ es)) (spread_has t e es n ns has) ∙ one_left n e (spread t ns es) es))
+          append_assoc done (live (resized (e.size - n) e ∷ [])) (left_of t ns es)
+          ∙ ap (λ l. done ++ l) (sym (ap (λ l. left_after l (e ∷ es)) spreads ∙ one_left n e (spread t ns es) es))
           ∙ r.run;
-      tape = append_assoc lines line (fills k (spread t ns es) es) ∙ ap (λ l. lines ++ l) (sym rest_line) ∙ r.tape;
-      place = omega (arith, r.place, ap length rest_line, length-append line (fills k (spread t ns es) es));
-      claims = omega (arith, r.claims, ap length (kept_has t e es has));
+      tape =
+          append_assoc lines (cond (ltb 0 n) (fill k n e ∷ []) []) (lines_of k t ns es)
+          ∙ ap (λ l. lines ++ l) (sym (ap (λ l. fills k l (e ∷ es)) spreads ∙ one_more (ltb 0 n) (fill k n e) (lines_of k t ns es)))
+          ∙ r.tape;
+      claims = omega (arith, r.claims, ap length kept);
       within = rest_within.1;
     }
 
-    rest_some : 0 < n → Rest t k all_run all_lines end ns es (done ++ live (resized (e.size - n) e ∷ [])) (lines ++ fill k n e ∷ []) (at + 1)
-    rest_some some = subst (λ b. Rest t k all_run all_lines end ns es (done ++ live (resized (e.size - n) e ∷ [])) (lines ++ cond b (fill k n e ∷ []) []) (at + length (cond b (fill k n e ∷ []) []))) (lt-ltb 0 n some) rest_has
+    rest_some : 0 < n → Rest k t all_left all_lines ns es (done ++ live (resized (e.size - n) e ∷ [])) (lines ++ fill k n e ∷ [])
+    rest_some some = subst (λ b. Rest k t all_left all_lines ns es (done ++ live (resized (e.size - n) e ∷ [])) (lines ++ cond b (fill k n e ∷ []) [])) (lt-ltb 0 n some) rest_has
 
-    rest_room : 0 < n → at < end
-    rest_room some = omega (arith, (rest_some some).place)
-
-  rest_none : (n : ℕ) (ns : List ℕ) → n ≡ 0 → is_live e ≡ true → t e ≡ true → Rest t k all_run all_lines end (n ∷ ns) (e ∷ es) done lines at → Rest t k all_run all_lines end ns es (done ++ e ∷ []) lines at
-  rest_none n ns none here has r =
-      let rest = rest_has 0 ns has (subst (λ m. Rest t k all_run all_lines end (m ∷ ns) (e ∷ es) done lines at) none r) in
+  rest_none : {n : ℕ} {ns : List ℕ} → n ≤ 0 → t e ≡ true → Rest k t all_left all_lines (n ∷ ns) (e ∷ es) done lines → Rest k t all_left all_lines ns es (done ++ live (e ∷ [])) lines
+  rest_none {n} {ns} none has r =
+      let zero : n ≡ 0 = omega arith in
+      let rest = rest_has has (subst (λ m. Rest k t all_left all_lines (m ∷ ns) (e ∷ es) done lines) zero r) in
       record {
-        run = ap (λ l. (done ++ l) ++ left_after (spread t ns es) es) (sym (unchanged e here)) ∙ rest.run;
-        tape = ap (λ l. l ++ fills k (spread t ns es) es) (sym (append-nil lines)) ∙ rest.tape;
-        place = omega (arith, rest.place);
+        run = ap (λ l. (done ++ l) ++ left_of t ns es) (sym (unchanged e)) ∙ rest.run;
+        tape = ap (λ l. l ++ lines_of k t ns es) (sym (append-nil lines)) ∙ rest.tape;
         claims = rest.claims;
         within = rest.within;
       }
 
--- what a step leaves of a run, and the lines of its fills
-abbrev pub run_left : (Entry → Bool) → List ℕ → List Entry → List Entry
-run_left t ns run = left_after (spread t ns (live run)) (live run)
+-- the numbers on a sheet
+abbrev pub numbers : Lent → List ℕ
+numbers l = map allotment_of l.sheet.now
 
-abbrev pub fill_lines : (Entry → Bool) → Step → List ℕ → List Entry → List Line
-fill_lines t k ns run = fills k (spread t ns (live run)) (live run)
-
--- the first i entries are paid: the run began as run₀ and the tape as tape₀, which is written from at₀ on
-pub record Paid (t : Entry → Bool) (k : Step) (ns : List ℕ) (run₀ : List Entry) (tape₀ : List Line) (at₀ : ℕ) (run : List Entry) (tape : List Line) (i j at : ℕ) : Type 0 where
+-- the first i entries are paid by the first j numbers, with lines behind those that the tape had
+pub record Paid (k : Step) (t : Entry → Bool) (run₀ : List Entry) (lent₀ : Lent) (run : List Entry) (lent : Lent) (i j : ℕ) : Type 0 where
   pub coming : drop i run ≡ drop i run₀
-  pub behind : drop at tape ≡ drop at tape₀
-  pub rest : Rest t k (run_left t ns run₀) (take at₀ tape₀ ++ fill_lines t k ns run₀) (at₀ + length (fill_lines t k ns run₀)) (drop j ns) (live (drop i run₀)) (live (take i run)) (take at tape) at
+  pub lines : List Line
+  pub writes : Writes lines lent₀ lent
+  pub sheet : lent.sheet.now ≡ lent₀.sheet.now
+  pub rest : Rest k t (left_of t (numbers lent₀) run₀) (lines_of k t (numbers lent₀) run₀) (drop j (numbers lent₀)) (drop i run₀) (live (take i run)) lines
 
-drop_next : {X : Type 0} (xs ys : List X) (i : ℕ) → drop i xs ≡ drop i ys → drop (i + 1) xs ≡ drop (i + 1) ys
-drop_next xs ys i same = sym (drop-drop 1 i xs) ∙ ap (drop 1) same ∙ drop-drop 1 i ys
+pub paid_none : (k : Step) (t : Entry → Bool) (run : List Entry) (lent : Lent) → length (filter t run) ≤ length lent.sheet.now → AllZip ◌≤◌ (map allotment_of (take (length (filter t run)) lent.sheet.now)) (map size_of (filter t run)) → Paid k t run lent run lent 0 0
+paid_none k t run lent claims within = record {
+  coming = refl;
+  lines = [];
+  writes = writes_none lent;
+  sheet = refl;
+  rest = record {
+    run = refl;
+    tape = refl;
+    claims = omega (arith, length-map lent.sheet.now allotment_of);
+    within = subst (λ l. AllZip ◌≤◌ l (map size_of (filter t run))) (sym (take-map allotment_of (length (filter t run)) lent.sheet.now)) within;
+  };
+}
 
-module _ (t : Entry → Bool) (k : Step) (ns : List ℕ) (run₀ : List Entry) (tape₀ : List Line) (at₀ : ℕ) where
-  pub paid_none : length (filter t (live run₀)) ≤ length ns → AllZip ◌≤◌ (take (length (filter t (live run₀))) ns) (map size_of (filter t (live run₀))) → Paid t k ns run₀ tape₀ at₀ run₀ tape₀ 0 0 at₀
-  paid_none claims within = record {
-    coming = refl;
-    behind = refl;
-    rest = record { run = refl; tape = refl; place = refl; claims = claims; within = within };
-  }
-
+module _ {k : Step} {t : Entry → Bool} {run₀ run : List Entry} {lent₀ lent : Lent} {i j : ℕ} (p : Paid k t run₀ lent₀ run lent i j) where
   -- at the end of the run
-  module _ (run : List Entry) (tape : List Line) (i j at : ℕ) (p : Paid t k ns run₀ tape₀ at₀ run tape i j at) (long : length run ≡ length run₀) (end : length run ≤ i) where
-    over : Rest t k (run_left t ns run₀) (take at₀ tape₀ ++ fill_lines t k ns run₀) (at₀ + length (fill_lines t k ns run₀)) (drop j ns) [] (live run) (take at tape) at
+  module _ (end : length run ≤ i) where
+    over : Rest k t (left_of t (numbers lent₀) run₀) (lines_of k t (numbers lent₀) run₀) (drop j (numbers lent₀)) [] (live run) p.lines
     over =
-        subst (λ l. Rest t k (run_left t ns run₀) (take at₀ tape₀ ++ fill_lines t k ns run₀) (at₀ + length (fill_lines t k ns run₀)) (drop j ns) [] (live l) (take at tape) at) (take_all i run end)
-        (subst (λ l. Rest t k (run_left t ns run₀) (take at₀ tape₀ ++ fill_lines t k ns run₀) (at₀ + length (fill_lines t k ns run₀)) (drop j ns) (live l) (live (take i run)) (take at tape) at) (drop_all i run₀ (omega arith)) p.rest)
+        subst (λ l. Rest k t (left_of t (numbers lent₀) run₀) (lines_of k t (numbers lent₀) run₀) (drop j (numbers lent₀)) [] (live l) p.lines) (take_all i run end)
+        (subst (λ l. Rest k t (left_of t (numbers lent₀) run₀) (lines_of k t (numbers lent₀) run₀) (drop j (numbers lent₀)) l (live (take i run)) p.lines) (sym p.coming ∙ drop_all i run end) p.rest)
 
-    pub paid_run : live run ≡ run_left t ns run₀
+    pub paid_run : live run ≡ left_of t (numbers lent₀) run₀
     paid_run = sym (append-nil (live run)) ∙ over.run
 
-    pub paid_place : at ≡ at₀ + length (fill_lines t k ns run₀)
-    paid_place = omega (arith, over.place)
-
-    pub paid_tape : tape ≡ written at₀ (fill_lines t k ns run₀) tape₀
-    paid_tape =
-        sym (take-append-drop at tape)
-        ∙ (λ u. (sym (append-nil (take at tape)) ∙ over.tape) u ++ p.behind u)
-        ∙ ap (λ m. (take at₀ tape₀ ++ fill_lines t k ns run₀) ++ drop m tape₀) paid_place
+    pub paid_writes : Writes (lines_of k t (numbers lent₀) run₀) lent₀ lent
+    paid_writes = subst (λ l. Writes l lent₀ lent) (sym (append-nil p.lines) ∙ over.tape) p.writes
 
   -- one turn
-  module _ (run : List Entry) (tape : List Line) (i j at : ℕ) (d : Entry) (p : Paid t k ns run₀ tape₀ at₀ run tape i j at) (in' : i < length run) where
-    abbrev State : List ℕ → List Entry → List Entry → List Line → ℕ → Type 0
-    State = Rest t k (run_left t ns run₀) (take at₀ tape₀ ++ fill_lines t k ns run₀) (at₀ + length (fill_lines t k ns run₀))
+  module _ (in' : i < length run) where
+    abbrev entry : Entry
+    entry = get_or run i no_entry
 
-    abbrev e : Entry
-    e = get_or run i d
+    abbrev number : ℕ
+    number = (get_or lent.sheet.now j no_claim).allotment
 
-    to_come : drop i run₀ ≡ e ∷ drop (i + 1) run₀
-    to_come = sym p.coming ∙ drop_more run i d in' ∙ ap (λ l. e ∷ l) (drop_next run run₀ i p.coming)
+    abbrev State : List ℕ → List Entry → List Entry → List Line → Type 0
+    State = Rest k t (left_of t (numbers lent₀) run₀) (lines_of k t (numbers lent₀) run₀)
 
-    done_more : live (take (i + 1) run) ≡ live (take i run) ++ live (e ∷ [])
-    done_more = ap live (take_more run i d in') ∙ filter-append is_live (take i run) (e ∷ [])
+    next : drop (i + 1) run ≡ drop (i + 1) run₀
+    next = sym (drop-drop 1 i run) ∙ ap (drop 1) p.coming ∙ drop-drop 1 i run₀
 
-    -- the entry has no contracts left
-    paid_gone : is_live e ≡ false → Paid t k ns run₀ tape₀ at₀ run tape (i + 1) j at
-    paid_gone gone = record {
-      coming = drop_next run run₀ i p.coming;
-      behind = p.behind;
-      rest =
-          subst (λ l. State (drop j ns) (live (drop (i + 1) run₀)) l (take at tape) at) (sym (done_more ∙ ap (λ b. live (take i run) ++ cond b (e ∷ []) []) gone ∙ append-nil (live (take i run))))
-          (subst (λ l. State (drop j ns) l (live (take i run)) (take at tape) at) (ap live to_come ∙ ap (λ b. cond b (e ∷ live (drop (i + 1) run₀)) (live (drop (i + 1) run₀))) gone) p.rest);
+    still : State (drop j (numbers lent₀)) (entry ∷ drop (i + 1) run₀) (live (take i run)) p.lines
+    still = subst (λ l. State (drop j (numbers lent₀)) l (live (take i run)) p.lines) (sym p.coming ∙ drop_more run i no_entry in' ∙ ap (λ l. entry ∷ l) next) p.rest
+
+    done_same : live (take i run) ++ live (entry ∷ []) ≡ live (take (i + 1) run)
+    done_same = sym (ap live (take_more run i no_entry in') ∙ filter-append is_live (take i run) (entry ∷ []))
+
+    -- the entry takes no part
+    pub turn_other : t entry ≡ false → Paid k t run₀ lent₀ run lent (i + 1) j
+    turn_other other = record {
+      coming = next;
+      lines = p.lines;
+      writes = p.writes;
+      sheet = p.sheet;
+      rest = subst (λ l. State (drop j (numbers lent₀)) (drop (i + 1) run₀) l p.lines) done_same (rest_other other still);
     }
 
-    module _ (here : is_live e ≡ true) where
-      still : State (drop j ns) (e ∷ live (drop (i + 1) run₀)) (live (take i run)) (take at tape) at
-      still = subst (λ l. State (drop j ns) l (live (take i run)) (take at tape) at) (ap live to_come ∙ ap (λ b. cond b (e ∷ live (drop (i + 1) run₀)) (live (drop (i + 1) run₀))) here) p.rest
+    -- it takes part, and has a number
+    module _ (has : t entry ≡ true) where
+      at_least_one : 1 ≤ length (drop j (numbers lent₀))
+      at_least_one = let kept : filter t (entry ∷ drop (i + 1) run₀) ≡ entry ∷ filter t (drop (i + 1) run₀) = cond-true (t entry) _ _ has in omega (arith, still.claims, ap length kept)
 
-      done_same : live (take i run) ++ e ∷ [] ≡ live (take (i + 1) run)
-      done_same = sym (done_more ∙ ap (λ b. live (take i run) ++ cond b (e ∷ []) []) here)
+      in_sheet : j < length lent₀.sheet.now
+      in_sheet = omega (arith, at_least_one, length-drop j (numbers lent₀), length-map lent₀.sheet.now allotment_of)
 
-      -- it takes no part
-      paid_other : t e ≡ false → Paid t k ns run₀ tape₀ at₀ run tape (i + 1) j at
-      paid_other other = record {
-        coming = drop_next run run₀ i p.coming;
-        behind = p.behind;
-        rest =
-            subst (λ l. State (drop j ns) (live (drop (i + 1) run₀)) l (take at tape) at) done_same
-            (rest_other t k (run_left t ns run₀) (take at₀ tape₀ ++ fill_lines t k ns run₀) (at₀ + length (fill_lines t k ns run₀)) e (live (drop (i + 1) run₀)) (live (take i run)) (take at tape) at (drop j ns) here other still);
-      }
-
-      module _ (has : t e ≡ true) where
-        -- it has a number
-        paid_claim : j < length ns
-        paid_claim = omega (arith, still.claims, ap length (kept_has t e (live (drop (i + 1) run₀)) has), length-drop j ns)
-
-        module _ (n : ℕ) (its : n ≡ get_or ns j 0) where
-          with_number : State (n ∷ drop (j + 1) ns) (e ∷ live (drop (i + 1) run₀)) (live (take i run)) (take at tape) at
-          with_number = subst (λ l. State l (e ∷ live (drop (i + 1) run₀)) (live (take i run)) (take at tape) at) (drop_more ns j 0 paid_claim ∙ ap (λ m. m ∷ drop (j + 1) ns) (sym its)) still
-
-          paid_within : n ≤ e.size
-          paid_within = (rest_within t k (run_left t ns run₀) (take at₀ tape₀ ++ fill_lines t k ns run₀) (at₀ + length (fill_lines t k ns run₀)) e (live (drop (i + 1) run₀)) (live (take i run)) (take at tape) at n (drop (j + 1) ns) has with_number).0
-
-          paid_room : 0 < n → at < at₀ + length (fill_lines t k ns run₀)
-          paid_room some = rest_room t k (run_left t ns run₀) (take at₀ tape₀ ++ fill_lines t k ns run₀) (at₀ + length (fill_lines t k ns run₀)) e (live (drop (i + 1) run₀)) (live (take i run)) (take at tape) at n (drop (j + 1) ns) has with_number some
-
-          -- which is 0
-          paid_nothing : n ≡ 0 → Paid t k ns run₀ tape₀ at₀ run tape (i + 1) (j + 1) at
-          paid_nothing none = record {
-            coming = drop_next run run₀ i p.coming;
-            behind = p.behind;
-            rest =
-                subst (λ l. State (drop (j + 1) ns) (live (drop (i + 1) run₀)) l (take at tape) at) done_same
-                (rest_none t k (run_left t ns run₀) (take at₀ tape₀ ++ fill_lines t k ns run₀) (at₀ + length (fill_lines t k ns run₀)) e (live (drop (i + 1) run₀)) (live (take i run)) (take at tape) at n (drop (j + 1) ns) none here has with_number);
-          }
-
-          -- or more
-          paid_some : 0 < n → at < length tape → Paid t k ns run₀ tape₀ at₀ (set run i (resized (e.size - n) e)) (set tape at (fill k n e)) (i + 1) (j + 1) (at + 1)
-          paid_some some room =
-              let done : live (take i run) ++ live (resized (e.size - n) e ∷ []) ≡ live (take (i + 1) (set run i (resized (e.size - n) e))) =
-              sym (ap live (take_more_set run i (resized (e.size - n) e) in') ∙ filter-append is_live (take i run) (resized (e.size - n) e ∷ [])) in
-              record {
-                coming = drop-set-lt (i + 1) run i (resized (e.size - n) e) (omega arith) ∙ drop_next run run₀ i p.coming;
-                behind = drop-set-lt (at + 1) tape at (fill k n e) (omega arith) ∙ drop_next tape tape₀ at p.behind;
-                rest =
-                    subst (λ l. State (drop (j + 1) ns) (live (drop (i + 1) run₀)) l (take (at + 1) (set tape at (fill k n e))) (at + 1)) done
-                    (subst (λ l. State (drop (j + 1) ns) (live (drop (i + 1) run₀)) (live (take i run) ++ live (resized (e.size - n) e ∷ [])) l (at + 1)) (sym (take_more_set tape at (fill k n e) room))
-                    (rest_some t k (run_left t ns run₀) (take at₀ tape₀ ++ fill_lines t k ns run₀) (at₀ + length (fill_lines t k ns run₀)) e (live (drop (i + 1) run₀)) (live (take i run)) (take at tape) at n (drop (j + 1) ns) has with_number some));
-              }
-
--- the turns of the loop, with the numbers on a sheet
-module _ (sheet : List Claim) {t : Entry → Bool} {k : Step} {run₀ : List Entry} {tape₀ : List Line} {at₀ : ℕ} {run : List Entry} {tape : List Line} {i j at : ℕ} (p : Paid t k (map allotment_of sheet) run₀ tape₀ at₀ run tape i j at) (in' : i < length run) where
-  abbrev entry : Entry
-  entry = get_or run i no_entry
-
-  abbrev number : ℕ
-  number = (get_or sheet j no_claim).allotment
-
-  pub turn_gone : entry.size ≤ 0 → Paid t k (map allotment_of sheet) run₀ tape₀ at₀ run tape (i + 1) j at
-  turn_gone gone = paid_gone t k (map allotment_of sheet) run₀ tape₀ at₀ run tape i j at no_entry p in' (le-ltb 0 entry.size gone)
-
-  module _ (here : 0 < entry.size) where
-    pub turn_other : false ≡ t entry → Paid t k (map allotment_of sheet) run₀ tape₀ at₀ run tape (i + 1) j at
-    turn_other other = paid_other t k (map allotment_of sheet) run₀ tape₀ at₀ run tape i j at no_entry p in' (lt-ltb 0 entry.size here) (sym other)
-
-    module _ (has : true ≡ t entry) where
-      pub turn_claim : j < length sheet
-      turn_claim = omega (arith, length-map sheet allotment_of, paid_claim t k (map allotment_of sheet) run₀ tape₀ at₀ run tape i j at no_entry p in' (lt-ltb 0 entry.size here) (sym has))
-
-      its_number : number ≡ get_or (map allotment_of sheet) j 0
-      its_number = sym (get_or-map allotment_of sheet j no_claim 0 turn_claim)
+      with_number : State (number ∷ drop (j + 1) (numbers lent₀)) (entry ∷ drop (i + 1) run₀) (live (take i run)) p.lines
+      with_number =
+          let its : number ≡ get_or (numbers lent₀) j 0 = ap (λ s. (get_or s j no_claim).allotment) p.sheet ∙ sym (get_or-map allotment_of lent₀.sheet.now j no_claim 0 in_sheet) in
+          subst (λ l. State l (entry ∷ drop (i + 1) run₀) (live (take i run)) p.lines) (drop_more (numbers lent₀) j 0 (omega (arith, in_sheet, length-map lent₀.sheet.now allotment_of)) ∙ ap (λ m. m ∷ drop (j + 1) (numbers lent₀)) (sym its)) still
 
       pub turn_within : number ≤ entry.size
-      turn_within = paid_within t k (map allotment_of sheet) run₀ tape₀ at₀ run tape i j at no_entry p in' (lt-ltb 0 entry.size here) (sym has) number its_number
+      turn_within = (rest_within has with_number).0
 
-      pub turn_room : 0 < number → at < at₀ + length (fill_lines t k (map allotment_of sheet) run₀)
-      turn_room some = paid_room t k (map allotment_of sheet) run₀ tape₀ at₀ run tape i j at no_entry p in' (lt-ltb 0 entry.size here) (sym has) number its_number some
+      -- which is 0
+      pub turn_nothing : number ≤ 0 → Paid k t run₀ lent₀ run lent (i + 1) (j + 1)
+      turn_nothing none = record {
+        coming = next;
+        lines = p.lines;
+        writes = p.writes;
+        sheet = p.sheet;
+        rest = subst (λ l. State (drop (j + 1) (numbers lent₀)) (drop (i + 1) run₀) l p.lines) done_same (rest_none none has with_number);
+      }
 
-      pub turn_nothing : number ≤ 0 → Paid t k (map allotment_of sheet) run₀ tape₀ at₀ run tape (i + 1) (j + 1) at
-      turn_nothing none = paid_nothing t k (map allotment_of sheet) run₀ tape₀ at₀ run tape i j at no_entry p in' (lt-ltb 0 entry.size here) (sym has) number its_number (omega arith)
+      -- or more
+      module _ (some : 0 < number) (room : lent₀.lines + length (lines_of k t (numbers lent₀) run₀) ≤ length lent₀.tape.now) where
+        more : State (drop (j + 1) (numbers lent₀)) (drop (i + 1) run₀) (live (take i run) ++ live (resized (entry.size - number) entry ∷ [])) (p.lines ++ fill k number entry ∷ [])
+        more = rest_some has with_number some
 
-      pub turn_some : 0 < number → at < length tape → Paid t k (map allotment_of sheet) run₀ tape₀ at₀ (set run i (resized (entry.size - number) entry)) (set tape at (fill k number entry)) (i + 1) (j + 1) (at + 1)
-      turn_some some room = paid_some t k (map allotment_of sheet) run₀ tape₀ at₀ run tape i j at no_entry p in' (lt-ltb 0 entry.size here) (sym has) number its_number some room
+        longer : length (p.lines ++ fill k number entry ∷ []) ≤ length (lines_of k t (numbers lent₀) run₀)
+        longer = omega (arith, ap length more.tape, length-append (p.lines ++ fill k number entry ∷ []) (lines_of k t (drop (j + 1) (numbers lent₀)) (drop (i + 1) run₀)))
+
+        pub turn_room : lent.lines < length lent.tape.now
+        turn_room =
+            let one = length-append p.lines (fill k number entry ∷ []) in
+            let long = longer in
+            omega (arith, p.writes.lines, length_after p.writes (omega (arith, one, long)))
+
+        pub turn_some : {lent' : Lent} → Writes (fill k number entry ∷ []) lent lent' → lent'.sheet.now ≡ lent.sheet.now → Paid k t run₀ lent₀ (set run i (resized (entry.size - number) entry)) lent' (i + 1) (j + 1)
+        turn_some writes claims =
+            let paid = resized (entry.size - number) entry in
+            let done : live (take i run) ++ live (paid ∷ []) ≡ live (take (i + 1) (set run i paid)) = sym (ap live (take_more_set run i paid in') ∙ filter-append is_live (take i run) (paid ∷ [])) in
+            record {
+              coming = drop-set-lt (i + 1) run i paid (omega arith) ∙ next;
+              lines = p.lines ++ fill k number entry ∷ [];
+              writes = writes_twice p.writes writes (omega (arith, longer));
+              sheet = claims ∙ p.sheet;
+              rest = subst (λ l. State (drop (j + 1) (numbers lent₀)) (drop (i + 1) run₀) l (p.lines ++ fill k number entry ∷ [])) done more;
+            }

@@ -1,17 +1,18 @@
--- What those who take part at a price show, and how many they are. Assumes nothing.
-use Rattle.std.proofs.Common.{◌≡◌, ℕ, ◌+◌, ◌<◌, ◌≤◌, Bool, true, false, cond, ◌&&◌, ltb, List, [], ◌∷◌, length, get_or, filter, refl, ap, ◌∙◌, arith}
-use Rattle.std.proofs.lemmas.Bool.{lt-ltb, le-ltb}
+-- What those who take part at a price show, and whether somebody does: sums and tests of a chain. Assumes nothing.
+use Rattle.std.proofs.Common.{◌≡◌, ℕ, ◌+◌, ◌^◌, ◌<◌, ◌≤◌, Bool, true, false, cond, not, ◌&&◌, ◌||◌, ltb, List, [], ◌∷◌, filter, Option, sym, refl, ap, ◌∙◌, arith}
+use Rattle.std.specs.List.{sum_by, list_any}
+use Rattle.std.proofs.lemmas.Bool.{lt-ltb}
+use Rattle.std.proofs.lemmas.List.Filters.{sum_by-filter_both}
+use Rattle.std.proofs.lemmas.List.Recursion.{is_sum_by}
 use Rattle.sharing.specs.Totals.{one_if, total, count}
-use Rattle.sharing.specs.Allotted.{total_more, total_part}
 use Rattle.rules.specs.declared.terms.Entry.{Entry}
-use Rattle.rules.specs.declared.terms.Kind.TheVariants.{Customer}
+use Rattle.rules.specs.declared.terms.Routed.{Routed}
+use Rattle.rules.specs.Checks.{is_barred}
 use Rattle.rules.specs.Level.{size_of}
-use Rattle.rules.proofs.Held.{held, held_kept}
+use Rattle.rules.specs.Prices.{in_reach}
+use Rattle.rules.specs.Walk.{available}
+use Rattle.rules.proofs.Held.{held_kept}
 use Rattle.matching.specs.Parts.{is_live, live, takes_part}
-
--- what stands where nothing does
-abbrev pub no_entry : Entry
-no_entry = record { id = 0; firm = 0; kind = Customer; market = false; price = 0; size = 0; time = 0; own_firm_mark = false }
 
 -- a filter of a filter is one
 pub kept_twice : {X : Type 0} (p q : X → Bool) (xs : List X) → filter q (filter p xs) ≡ filter (λ x. p x && q x) xs
@@ -22,37 +23,39 @@ kept_twice p q (x ∷ xs) =
       | false ↦ kept_twice p q xs
     ]
 
--- what one who takes part adds
-abbrev pub adds : (Entry → Bool) → Entry → ℕ
-adds t e = cond (takes_part t e) e.size 0
+sizes : (es : List Entry) → total size_of es ≡ sum_by size_of es
+sizes es = is_sum_by (total size_of) size_of refl (λ _ _. refl) es
 
-pub shown_is : (t : Entry → Bool) (es : List Entry) → total size_of (filter t (live es)) ≡ total (adds t) es
-shown_is t es = ap (total size_of) (kept_twice is_live t es) ∙ held_kept (takes_part t) es
+kept_less : (q : Entry → Bool) (es : List Entry) → total size_of (filter q es) ≤ total size_of es
+kept_less q es = omega (arith, sizes es, sizes (filter q es), sum_by-filter_both q (λ e. not (q e)) (λ _. refl) size_of es)
 
--- no more than all that stands there
-pub adds_within : (t : Entry → Bool) (es : List Entry) → total (adds t) es ≤ total size_of (live es)
-adds_within t es = omega (arith, held_kept is_live es, less es)
-  where
-    one : (e : Entry) → adds t e ≤ cond (is_live e) e.size 0
-    one e = elim (is_live e) as (λ b. cond (b && t e) e.size 0 ≤ cond b e.size 0) [ true ↦ elim (t e) as (λ b. cond b e.size 0 ≤ e.size) [ true ↦ omega arith | false ↦ omega arith ] | false ↦ omega arith ]
+pub shown_is : (t : Entry → Bool) (es : List Entry) → sum_by size_of (filter (takes_part t) es) ≡ total size_of (filter t (live es))
+shown_is t es = sym (sizes (filter (takes_part t) es)) ∙ ap (total size_of) (sym (kept_twice is_live t es))
 
-    less : (fs : List Entry) → total (adds t) fs ≤ held is_live fs
-    less [] = omega arith
-    less (f ∷ fs) = omega (arith, one f, less fs)
+pub shown_fits : (t : Entry → Bool) (es : List Entry) → total size_of (live es) < 2 ^ 32 → sum_by size_of (filter (takes_part t) es) < 2 ^ 32
+shown_fits t es few = omega (arith, shown_is t es, kept_less t (live es))
 
-pub count_is : (t : Entry → Bool) (es : List Entry) → count t (live es) ≡ count (takes_part t) es
-count_is t [] = refl
-count_is t (e ∷ es) =
-    elim (is_live e) as (λ b. count t (cond b (e ∷ live es) (live es)) ≡ one_if (b && t e) + count (takes_part t) es) [
-      | true ↦ ap (λ n. one_if (t e) + n) (count_is t es)
-      | false ↦ omega (arith, count_is t es)
+-- somebody takes part where the count is above 0
+pub any_is : (t : Entry → Bool) (es : List Entry) → list_any (takes_part t) es ≡ ltb 0 (count t (live es))
+any_is t [] = refl
+any_is t (e ∷ es) =
+    elim (is_live e) as (λ b. ((b && t e) || list_any (takes_part t) es) ≡ ltb 0 (count t (cond b (e ∷ live es) (live es)))) [
+      | true ↦ elim (t e) as (λ b. (b || list_any (takes_part t) es) ≡ ltb 0 (one_if b + count t (live es))) [
+        | true ↦ sym (lt-ltb 0 (1 + count t (live es)) (omega arith))
+        | false ↦ any_is t es ∙ (λ i. ltb 0 (zero_more (count t (live es)) i))
+      ]
+      | false ↦ any_is t es
     ]
+  where
+    zero_more : (n : ℕ) → n ≡ 0 + n
+    zero_more n = omega arith
 
--- where somebody takes part the count is above 0
-pub count_some : (t : Entry → Bool) (es : List Entry) (i : ℕ) (d : Entry) → i < length es → takes_part t (get_or es i d) ≡ true → ltb 0 (count t (live es)) ≡ true
-count_some t es i d within here =
-    let one = ap one_if here in
-    lt-ltb 0 (count t (live es)) (omega (arith, count_is t es, total_more (λ e. one_if (takes_part t e)) es i d within, total_part (λ e. one_if (takes_part t e)) es (i + 1)))
+-- an entry that an order can trade with
+abbrev pub reachable : Routed → Option ℕ → Entry → Bool
+reachable o away e = in_reach o.side o.cap away e.price && not (is_barred o.firm o.own_firm_mark e)
 
-pub count_none : (t : Entry → Bool) (es : List Entry) → count (takes_part t) es ≡ 0 → ltb 0 (count t (live es)) ≡ false
-count_none t es none = le-ltb 0 (count t (live es)) (omega (arith, count_is t es))
+pub available_is : (o : Routed) (away : Option ℕ) (es : List Entry) → sum_by size_of (filter (reachable o away) es) ≡ available o away es
+available_is o away es = sym (sizes (filter (reachable o away) es)) ∙ held_kept (reachable o away) es
+
+pub available_fits : (o : Routed) (away : Option ℕ) (es : List Entry) → total size_of es < 2 ^ 32 → sum_by size_of (filter (reachable o away) es) < 2 ^ 32
+available_fits o away es few = omega (arith, sizes (filter (reachable o away) es), kept_less (reachable o away) es)

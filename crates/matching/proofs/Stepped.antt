@@ -46,10 +46,9 @@ pub record FromSheet (k : Step) (t : Entry → Bool) (rule : Sharing) (amount ba
   pub lines : fills k (spread t (map allotment_of sheet) es) es ≡ (step k t rule amount (record { balance = balance; run = es; lines = [] })).lines
   pub left : balance - given ≡ (step k t rule amount (record { balance = balance; run = es; lines = [] })).balance
 
--- the first n claims of a sheet are those of the step, and then a rule shares over them
+-- a rule shares over the claims of the step, which stand at the front of the sheet
 module _ (k : Step) (t : Entry → Bool) (rule : Sharing) (lawful : Lawful rule) (amount balance : ℕ) (es : List Entry) (ok : Shareable amount (map claim_of (filter t es)))
-    (n : ℕ) (gathered shared : List Claim) (few : n ≡ length (filter t es)) (theirs : take n gathered ≡ map claim_of (filter t es))
-    (after : take n shared ≡ allotted (rule.allotments amount (take n gathered)) (take n gathered)) where
+    (shared : List Claim) (after : take (length (filter t es)) shared ≡ allotted (rule.allotments amount (map claim_of (filter t es))) (map claim_of (filter t es))) where
   abbrev asked : List Claim
   asked = map claim_of (filter t es)
 
@@ -60,20 +59,18 @@ module _ (k : Step) (t : Entry → Bool) (rule : Sharing) (lawful : Lawful rule)
   long = length_all_zip ◌≤◌ (rule.allotments amount asked) (map claims.size_of asked) (lawful.within amount asked ok) ∙ length-map asked claims.size_of
 
   -- the numbers on the sheet are the rule's
-  numbers : map allotment_of (take n shared) ≡ rule.allotments amount asked
-  numbers = ap (map allotment_of) (after ∙ ap (λ l. allotted (rule.allotments amount l) l) theirs) ∙ allotments_of (rule.allotments amount asked) asked long
+  numbers : map allotment_of (take (length (filter t es)) shared) ≡ rule.allotments amount asked
+  numbers = ap (map allotment_of) after ∙ allotments_of (rule.allotments amount asked) asked long
 
   spreads : spread t (map allotment_of shared) es ≡ spread t (rule.allotments amount asked) es
   spreads =
       sym (spread_front t (map allotment_of shared) es)
-      ∙ ap (λ m. spread t (take m (map allotment_of shared)) es) (sym few)
-      ∙ ap (λ l. spread t l es) (take-map allotment_of n shared ∙ numbers)
+      ∙ ap (λ l. spread t l es) (take-map allotment_of (length (filter t es)) shared ∙ numbers)
 
   sheet_within : AllZip ◌≤◌ (map allotment_of (take (length (filter t es)) shared)) (map size_of (filter t es))
   sheet_within =
-      subst (λ m. AllZip ◌≤◌ (map allotment_of (take m shared)) (map size_of (filter t es))) few
-      (subst (λ l. AllZip ◌≤◌ l (map size_of (filter t es))) (sym numbers)
-      (subst (AllZip ◌≤◌ (rule.allotments amount asked)) (map-map claims.size_of claim_of (filter t es)) (lawful.within amount asked ok)))
+      subst (λ l. AllZip ◌≤◌ l (map size_of (filter t es))) (sym numbers)
+      (subst (AllZip ◌≤◌ (rule.allotments amount asked)) (map-map claims.size_of claim_of (filter t es)) (lawful.within amount asked ok))
 
   sheet_run : left_after (spread t (map allotment_of shared) es) es ≡ (step k t rule amount deal).run
   unfolding step
@@ -83,9 +80,9 @@ module _ (k : Step) (t : Entry → Bool) (rule : Sharing) (lawful : Lawful rule)
   unfolding step
   sheet_lines = ap (λ l. fills k l es) spreads
 
-  sheet_balance : (given : ℕ) → given ≡ min amount (total claims.size_of (take n gathered)) → balance - given ≡ (step k t rule amount deal).balance
+  sheet_balance : (given : ℕ) → given ≡ min amount (total claims.size_of asked) → balance - given ≡ (step k t rule amount deal).balance
   unfolding step
-  sheet_balance given gives = ap (λ m. balance - m) (gives ∙ ap (λ l. min amount (total claims.size_of l)) theirs ∙ sym (lawful.adds_up amount asked ok))
+  sheet_balance given gives = ap (λ m. balance - m) (gives ∙ sym (lawful.adds_up amount asked ok))
 
-  pub from_sheet : (given : ℕ) → given ≡ min amount (total claims.size_of (take n gathered)) → FromSheet k t rule amount balance es shared given
+  pub from_sheet : (given : ℕ) → given ≡ min amount (total claims.size_of asked) → FromSheet k t rule amount balance es shared given
   from_sheet given gives = record { within = sheet_within; run = sheet_run; lines = sheet_lines; left = sheet_balance given gives }

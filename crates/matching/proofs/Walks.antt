@@ -1,12 +1,13 @@
 -- A walk from run to run, as far as it has come in the places of a side. Assumes nothing.
-use Rattle.std.proofs.Common.{◌≡◌, ℕ, zero, suc, ◌+◌, ◌-◌, ◌<◌, ◌≤◌, Bool, true, false, ◌&&◌, eqb, leb, List, [], ◌∷◌, ◌++◌, length, get_or, take, drop, Option, sym, refl, ap, ◌∙◌, subst, arith}
+use Rattle.std.proofs.Common.{◌≡◌, ℕ, zero, suc, ◌+◌, ◌-◌, ◌<◌, ◌≤◌, Bool, true, false, ◌&&◌, eqb, leb, List, [], ◌∷◌, ◌++◌, length, get_or, take, drop, Option, Some, None, sym, refl, ap, ◌∙◌, subst, arith}
 use borrow.Rule.Slice.PartMut.{put_mid}
 use Rattle.std.specs.List.{between, AllByRecursion}
+use Rattle.std.specs.Option.{option_eq}
 use Rattle.std.proofs.lemmas.List.Edits.{length-between}
 use Rattle.std.proofs.lemmas.List.Elements.{filter-append}
 use Rattle.std.proofs.ByRecursion.{All-append, All-weaker}
-use Rattle.std.proofs.lemmas.List.{append_assoc, append-nil, take-append-drop, take_at, take-take, drop_at, drop-drop, drop_all, drop_more, get_or-take, length-append, length-take-le}
-use Rattle.std.proofs.lemmas.Slice.{between_is, take-put_mid, drop-put_mid}
+use Rattle.std.proofs.lemmas.List.{append_assoc, append-nil, take-append-drop, drop-drop, drop_all, drop_more, length-append, length-drop, length-take-le}
+use Rattle.std.proofs.lemmas.Slice.{take-put_mid, drop-put_mid}
 use Rattle.std.proofs.lemmas.Bool.{cond_both, cond-true, cond-false, and_from, and_left, and_right, le-leb, lt-leb, lt-ltb}
 use Rattle.sharing.specs.Sharing.{Sharing}
 use Rattle.rules.specs.declared.tape.Line.{Line}
@@ -19,19 +20,17 @@ use Rattle.rules.specs.Walk.{into_runs, runs, flat, at_price, is_price_of, walk}
 use Rattle.rules.proofs.AllPrices.{smaller}
 use Rattle.rules.proofs.CallsKeep.{level_balance}
 use Rattle.rules.proofs.Leaves.{level_short, runs_are_whole}
+use Rattle.matching.specs.declared.lent.Lent.{Lent}
+use Rattle.matching.specs.Deals.{Dealt}
 use Rattle.matching.specs.Parts.{is_live, live}
-use Rattle.matching.specs.Tapes.{written}
-use Rattle.matching.proofs.Runs.{no_entry, between_front}
+use Rattle.matching.specs.Tapes.{Writes}
+use Rattle.matching.specs.Walks.{walked}
+use Rattle.matching.proofs.Runs.{no_entry}
+use Rattle.matching.proofs.Written.{writes_none, writes_twice}
 
--- two lists that are alike from a place on are so from a later one on
-drop_later : {X : Type 0} (xs ys : List X) (a b : ℕ) → a ≤ b → drop a xs ≡ drop a ys → drop b xs ≡ drop b ys
-drop_later xs ys a b le same =
-    let there : a + (b - a) ≡ b = omega arith in
-    ap (λ n. drop n xs) (sym there) ∙ sym (drop-drop (b - a) a xs) ∙ ap (drop (b - a)) same ∙ drop-drop (b - a) a ys ∙ ap (λ n. drop n ys) there
-
--- what a place on has of the first n places
-drop_front : {X : Type 0} (xs ys : List X) (a n : ℕ) → drop a xs ≡ drop a ys → drop a (take n xs) ≡ drop a (take n ys)
-drop_front xs ys a n same = sym (between_is xs a n) ∙ ap (take (n - a)) same ∙ between_is ys a n
+pub best_is : (national : Option ℕ) (p : ℕ) → option_eq eqb national (Some p) ≡ is_price_of national p
+best_is None p = refl
+best_is (Some n) p = refl
 
 -- entries with contracts are all there
 live_all : (es : List Entry) → AllByRecursion (λ e. (1 ≤ e.size) × (e.size ≤ 99999)) es → live es ≡ es
@@ -81,124 +80,117 @@ module _ (rule : Sharing) (o : Routed) (national away : Option ℕ) where
       cond-true (leb 1 balance && at_price (in_reach o.side o.cap away) r) _ _ (and_from _ _ (le-leb 1 balance (omega arith)) reach)
       ∙ ap (λ b. let here = level rule o b balance r in let beyond = walk rule o national away here.balance rs in record { balance = beyond.balance; run = here.run ++ beyond.run; lines = here.lines ++ beyond.lines }) (sym is_best)
 
--- from the first places and from the tape to what they hold where the walk has come to the place from, with the line at next:
--- what is left to walk, after what was done, is the whole walk, and the places and lines further on are as they were
-pub record Walking (rule : Sharing) (o : Routed) (national away : Option ℕ) (len : ℕ) (places : List Entry) (tape : List Line) (now : List Entry) (lines : List Line) (balance at from : ℕ) : Type 0 where
-  pub within : from ≤ len
-  pub behind : at ≤ from
-  pub rest : drop from now ≡ drop from places
-  pub blank : drop at lines ≡ drop at tape
-  pub tradable : AllByRecursion (Tradable balance) (runs (drop from (take len places)))
-  pub same_balance : (walk rule o national away balance (runs (drop from (take len places)))).balance ≡ (walk rule o national away o.size (runs (take len places))).balance
-  pub same_run : live (take from now) ++ (walk rule o national away balance (runs (drop from (take len places)))).run ≡ (walk rule o national away o.size (runs (take len places))).run
-  pub same_lines : take at lines ++ (walk rule o national away balance (runs (drop from (take len places)))).lines ≡ (walk rule o national away o.size (runs (take len places))).lines
+-- from the entries and what is lent to what they are where the walk has come to the place from: what is left to walk, after
+-- what was done, is the whole walk, and the entries further on are as they were
+pub record Walking (rule : Sharing) (o : Routed) (national away : Option ℕ) (entries : List Entry) (lent0 : Lent) (now : List Entry) (lent : Lent) (balance from : ℕ) : Type 0 where
+  pub within : from ≤ length entries
+  pub whole : length now ≡ length entries
+  pub rest : drop from now ≡ drop from entries
+  pub tradable : AllByRecursion (Tradable balance) (runs (drop from entries))
+  pub lines : List Line
+  pub few : length lines ≤ from
+  pub writes : Writes lines lent0 lent
+  pub same_balance : (walk rule o national away balance (runs (drop from entries))).balance ≡ (walked rule o national away entries).balance
+  pub same_run : live (take from now) ++ (walk rule o national away balance (runs (drop from entries))).run ≡ (walked rule o national away entries).run
+  pub same_lines : lines ++ (walk rule o national away balance (runs (drop from entries))).lines ≡ (walked rule o national away entries).lines
 
-pub walking_none : (rule : Sharing) (o : Routed) (national away : Option ℕ) (len : ℕ) (places : List Entry) (tape : List Line) → AllByRecursion (Tradable o.size) (runs (take len places)) → Walking rule o national away len places tape places tape o.size 0 0
-walking_none rule o national away len places tape ok = record { within = omega arith; behind = omega arith; rest = refl; blank = refl; tradable = ok; same_balance = refl; same_run = refl; same_lines = refl }
+pub walking_none : (rule : Sharing) (o : Routed) (national away : Option ℕ) (entries : List Entry) (lent : Lent) → AllByRecursion (Tradable o.size) (runs entries) → Walking rule o national away entries lent entries lent o.size 0
+walking_none rule o national away entries lent ok = record { within = omega arith; whole = refl; rest = refl; tradable = ok; lines = []; few = omega arith; writes = writes_none lent; same_balance = refl; same_run = refl; same_lines = refl }
 
-module _ {rule : Sharing} {o : Routed} {national away : Option ℕ} {len : ℕ} {places now : List Entry} {tape lines : List Line} {balance at from : ℕ} (here : Walking rule o national away len places tape now lines balance at from) (whole : length now ≡ length places) (fits : len ≤ length places) where
-  abbrev rest : List Entry
-  rest = drop from (take len places)
+module _ {rule : Sharing} {o : Routed} {national away : Option ℕ} {entries now : List Entry} {lent0 lent : Lent} {balance from : ℕ} (here : Walking rule o national away entries lent0 now lent balance from) (room : lent0.lines + length entries ≤ length lent0.tape.now) where
+  -- the next n entries are a run
+  module _ {n : ℕ} (some : 0 < n) (more : List Entry) (more_is : more ≡ drop from now) (within : n ≤ length more) (run : runs more ≡ take n more ∷ runs (drop n more)) where
+    inside : from + n ≤ length now
+    inside = omega (arith, ap length more_is, length-drop from now, here.within, here.whole)
 
-  -- the next run, as a part of the places
-  module _ {to : ℕ} (lt : from < to) (le : to ≤ len) (run : runs (drop from (take len now)) ≡ between from to (take len now) ∷ runs (drop to (take len now))) where
-    next_run : runs rest ≡ between from to now ∷ runs (drop to (take len places))
+    abbrev next : List Entry
+    next = between from (from + n) now
+
+    pub next_length : length next ≡ n
+    next_length = omega (arith, length-between now from (from + n) inside)
+
+    next_run : runs (drop from entries) ≡ next ∷ runs (drop (from + n) entries)
     next_run =
-        let later = drop_later now places from to (omega arith) here.rest in
-        ap runs (sym (drop_front now places from len here.rest)) ∙ run ∙ (λ t. between_front now from to len le t ∷ runs (drop_front now places to len later t))
+        let part : take n more ≡ next = ap (take n) more_is ∙ ap (λ m. take m (drop from now)) (omega arith) in
+        let beyond : drop n more ≡ drop (from + n) entries = ap (drop n) (more_is ∙ here.rest) ∙ drop-drop n from entries ∙ ap (λ m. drop m entries) (omega arith) in
+        ap runs (sym (more_is ∙ here.rest)) ∙ run ∙ (λ t. part t ∷ runs (beyond t))
 
-    both_tradable : AllByRecursion (Tradable balance) (between from to now ∷ runs (drop to (take len places)))
+    both_tradable : AllByRecursion (Tradable balance) (next ∷ runs (drop (from + n) entries))
     both_tradable = subst (AllByRecursion (Tradable balance)) next_run here.tradable
 
-    pub next_tradable : Tradable balance (between from to now)
-    next_tradable = both_tradable.0
-
-    pub next_length : length (between from to now) ≡ to - from
-    next_length = length-between now from to (omega arith)
-
-    module _ (best reached : Bool) (some : 0 < balance) (in_reach_of : reached ≡ in_reach o.side o.cap away (get_or now from no_entry).price) (reach : reached ≡ true) (is_best : best ≡ is_price_of national (get_or now from no_entry).price) (long : len ≤ length lines) where
+    module _ {best reached : Bool} (left : 0 < balance) (in_reach_of : reached ≡ in_reach o.side o.cap away (get_or now from no_entry).price) (reach : reached ≡ true) (is_best : best ≡ is_price_of national (get_or now from no_entry).price) where
       abbrev one : Deal
-      one = level rule o best balance (between from to now)
+      one = level rule o best balance next
 
       abbrev beyond : Deal
-      beyond = walk rule o national away one.balance (runs (drop to (take len places)))
+      beyond = walk rule o national away one.balance (runs (drop (from + n) entries))
 
-      goes_on : walk rule o national away balance (runs rest) ≡ record { balance = beyond.balance; run = one.run ++ beyond.run; lines = one.lines ++ beyond.lines }
+      goes_on : walk rule o national away balance (runs (drop from entries)) ≡ record { balance = beyond.balance; run = one.run ++ beyond.run; lines = one.lines ++ beyond.lines }
       goes_on =
           ap (walk rule o national away balance) next_run
-          ∙ walks_on rule o national away balance best (between from to now) (runs (drop to (take len places))) some
-          (price_between (in_reach o.side o.cap away) now from to lt (omega arith) ∙ sym in_reach_of ∙ reach)
-          (is_best ∙ sym (price_between (is_price_of national) now from to lt (omega arith)))
+          ∙ walks_on rule o national away balance best next (runs (drop (from + n) entries)) left
+          (price_between (in_reach o.side o.cap away) now from (from + n) (omega arith) (omega (arith, inside)) ∙ sym in_reach_of ∙ reach)
+          (is_best ∙ sym (price_between (is_price_of national) now from (from + n) (omega arith) (omega (arith, inside))))
 
-      pub walking_more : (ys : List Entry) {lines' : List Line} {balance' at' : ℕ} → live ys ≡ one.run → length ys ≡ length (between from to now) → lines' ≡ written at one.lines lines → balance' ≡ one.balance → at' ≡ at + length one.lines → Walking rule o national away len places tape (put_mid from (to - from) now ys) lines' balance' at' to
-      walking_more ys {lines'} {balance'} {at'} alive same_length written_there spent moved =
-          let short = level_short rule o best balance (between from to now) in
-          let long_run = next_length in
-          let behind = here.behind in
-          let within = here.within in
-          let there = ap (λ b. walk rule o national away b (runs (drop to (take len places)))) spent in
-          let filled : length (take at lines ++ one.lines) ≡ at' = omega (arith, length-append (take at lines) one.lines, length-take-le at lines (omega arith)) in
-          let tail : drop at' lines' ≡ drop (at + length one.lines) lines = ap (drop at') written_there ∙ drop_at (take at lines ++ one.lines) _ at' filled in
-          let head : take at' lines' ≡ take at lines ++ one.lines = ap (take at') written_there ∙ take_at (take at lines ++ one.lines) _ at' filled in
-          let front : live (take to (put_mid from (to - from) now ys)) ≡ live (take from now) ++ one.run = ap live (take-put_mid from (to - from) now ys to (omega arith) (omega arith)) ∙ filter-append is_live (take from now) ys ∙ ap (λ l. live (take from now) ++ l) alive in
+      pub walking_more : {ys : List Entry} {lent' : Lent} {balance' : ℕ} → Dealt one next ys lent lent' balance' → Walking rule o national away entries lent0 (put_mid from (from + n - from) now ys) lent' balance' (from + n)
+      walking_more {ys} {lent'} {balance'} after =
+          let short = level_short rule o best balance next in
+          let long = next_length in
+          let few = here.few in
+          let there = ap (λ b. walk rule o national away b (runs (drop (from + n) entries))) after.left in
+          let in' = inside in
+          let whole = here.whole in
+          let same_length = after.places in
+          let both = length-append here.lines one.lines in
+          let put = put_mid from (from + n - from) now ys in
+          let front = take-put_mid from (from + n - from) now ys (from + n) (omega arith) (omega arith) in
+          let back = drop-put_mid from (from + n - from) now ys (from + n) (omega arith) (omega arith) (omega arith) in
+          let done : live (take (from + n) put) ≡ live (take from now) ++ one.run = ap live front ∙ filter-append is_live (take from now) ys ∙ ap (λ l. live (take from now) ++ l) after.entries in
           record {
-            within = le;
-            behind = omega arith;
-            rest = drop-put_mid from (to - from) now ys to (omega arith) (omega arith) (omega arith) ∙ drop_later now places from to (omega arith) here.rest;
-            blank = tail ∙ ap (λ n. drop n lines) (sym moved) ∙ drop_later lines tape at at' (omega arith) here.blank;
-            tradable = All-weaker (Tradable balance) (Tradable balance') (smaller balance' balance (omega (arith, level_balance rule o best balance (between from to now)))) (runs (drop to (take len places))) both_tradable.1;
+            within = omega arith;
+            whole = omega (arith, ap length (take-append-drop (from + n) put), length-append (take (from + n) put) (drop (from + n) put), ap length front, length-append (take from now) ys, length-take-le from now (omega arith), ap length back, length-drop (from + n) now);
+            rest = back ∙ sym (drop-drop n from now ∙ ap (λ m. drop m now) (omega arith)) ∙ ap (drop n) here.rest ∙ drop-drop n from entries ∙ ap (λ m. drop m entries) (omega arith);
+            tradable = All-weaker (Tradable balance) (Tradable balance') (smaller balance' balance (omega (arith, after.left, level_balance rule o best balance next))) (runs (drop (from + n) entries)) both_tradable.1;
+            lines = here.lines ++ one.lines;
+            few = omega arith;
+            writes = writes_twice here.writes after.writes (omega arith);
             same_balance = ap (λ d. d.balance) there ∙ sym (ap (λ d. d.balance) goes_on) ∙ here.same_balance;
-            same_run = (λ t. front t ++ (there t).run) ∙ append_assoc (live (take from now)) one.run beyond.run ∙ ap (λ d. live (take from now) ++ d.run) (sym goes_on) ∙ here.same_run;
-            same_lines = (λ t. head t ++ (there t).lines) ∙ append_assoc (take at lines) one.lines beyond.lines ∙ ap (λ d. take at lines ++ d.lines) (sym goes_on) ∙ here.same_lines;
+            same_run = (λ t. done t ++ (there t).run) ∙ append_assoc (live (take from now)) one.run beyond.run ∙ ap (λ d. live (take from now) ++ d.run) (sym goes_on) ∙ here.same_run;
+            same_lines = (λ t. (here.lines ++ one.lines) ++ (there t).lines) ∙ append_assoc here.lines one.lines beyond.lines ∙ ap (λ d. here.lines ++ d.lines) (sym goes_on) ∙ here.same_lines;
           }
 
   -- where the walk ends: behind the last entry, with no balance, or at a price out of reach
-  pub stops_last : len ≤ from → Stops rule o national away balance (runs rest)
-  stops_last past = subst (λ l. Stops rule o national away balance (runs l)) (sym (drop_all from (take len places) (omega (arith, length-take-le len places fits)))) (stops_none rule o national away balance)
+  abbrev pub Ends : Type 0
+  Ends = Stops rule o national away balance (runs (drop from entries))
 
-  pub stops_spent : balance ≤ 0 → Stops rule o national away balance (runs rest)
-  stops_spent spent = anywhere (runs rest)
+  pub stops_last : length now ≤ from → Ends
+  stops_last past = subst (λ l. Stops rule o national away balance (runs l)) (sym (drop_all from entries (omega (arith, here.whole)))) (stops_none rule o national away balance)
+
+  pub stops_spent : balance ≤ 0 → Ends
+  stops_spent spent = anywhere (runs (drop from entries))
     where
       anywhere : (rs : List (List Entry)) → Stops rule o national away balance rs
       anywhere [] = stops_none rule o national away balance
       anywhere (r ∷ rs) = stops_at rule o national away balance r rs (and_left _ _ (lt-leb 1 balance (omega arith)))
 
-  pub stops_beyond : {reached : Bool} → from < len → reached ≡ in_reach o.side o.cap away (get_or now from no_entry).price → reached ≡ false → Stops rule o national away balance (runs rest)
+  pub stops_beyond : {reached : Bool} → from < length now → reached ≡ in_reach o.side o.cap away (get_or now from no_entry).price → reached ≡ false → Ends
   stops_beyond lt in_reach_of out =
-      let next = sym (drop_front now places from len here.rest) ∙ drop_more (take len now) from no_entry (omega (arith, length-take-le len now (omega arith))) in
-      let same = ap (λ e. in_reach o.side o.cap away e.price) (get_or-take len now from no_entry lt) in
-      subst (λ l. Stops rule o national away balance (runs l)) (sym next)
-      (stops_into rule o national away balance (get_or (take len now) from no_entry) (runs (drop (from + 1) (take len now))) (same ∙ sym in_reach_of ∙ out))
+      subst (λ l. Stops rule o national away balance (runs l)) (sym (sym here.rest ∙ drop_more now from no_entry lt))
+      (stops_into rule o national away balance (get_or now from no_entry) (runs (drop (from + 1) now)) (sym in_reach_of ∙ out))
 
-  module _ (long : len ≤ length lines) (stops : Stops rule o national away balance (runs rest)) where
+  module _ (stops : Ends) where
     abbrev done : Deal
-    done = walk rule o national away o.size (runs (take len places))
+    done = walked rule o national away entries
 
     pub done_balance : balance ≡ done.balance
     done_balance = sym (ap (λ d. d.balance) stops) ∙ here.same_balance
 
-    done_lines : take at lines ≡ done.lines
-    done_lines = sym (append-nil (take at lines)) ∙ ap (λ d. take at lines ++ d.lines) (sym stops) ∙ here.same_lines
+    pub done_writes : Writes done.lines lent0 lent
+    done_writes = subst (λ l. Writes l lent0 lent) (sym (append-nil here.lines) ∙ ap (λ d. here.lines ++ d.lines) (sym stops) ∙ here.same_lines) here.writes
 
-    pub done_at : at ≡ length done.lines
-    done_at =
-        let behind = here.behind in
-        let within = here.within in
-        sym (length-take-le at lines (omega arith)) ∙ ap length done_lines
-
-    pub done_tape : lines ≡ written 0 done.lines tape
-    done_tape = sym (take-append-drop at lines) ∙ (λ t. done_lines t ++ here.blank t) ∙ ap (λ n. done.lines ++ drop n tape) (done_at ∙ omega arith)
-
-    done_run : live (take len now) ≡ done.run
+    pub done_run : live now ≡ done.run
     done_run =
-        let parts = sym (take-append-drop from (take len now)) ∙ (λ t. take-take from len now here.within t ++ drop_front now places from len here.rest t) in
-        let sized = subst (AllByRecursion (λ e. (1 ≤ e.size) × (e.size ≤ 99999))) (runs_are_whole rest) (sized_flat balance (runs rest) here.tradable) in
-        let end = live_all rest sized ∙ sym (runs_are_whole rest) ∙ ap (λ d. d.run) (sym stops) in
-        ap live parts ∙ filter-append is_live (take from now) rest ∙ ap (λ l. live (take from now) ++ l) end ∙ here.same_run
-
-    -- with the gaps closed
-    pub done_entries : {es : List Entry} → es ≡ live (take len now) → es ≡ done.run
-    done_entries closed = closed ∙ done_run
-
-    pub done_length : {n : ℕ} → n ≡ length (live (take len now)) → n ≡ length done.run
-    done_length closed = closed ∙ ap length done_run
+        let left = drop from entries in
+        let sized = subst (AllByRecursion (λ e. (1 ≤ e.size) × (e.size ≤ 99999))) (runs_are_whole left) (sized_flat balance (runs left) here.tradable) in
+        let end = live_all left sized ∙ sym (runs_are_whole left) ∙ ap (λ d. d.run) (sym stops) in
+        ap live (sym (take-append-drop from now) ∙ ap (λ l. take from now ++ l) here.rest) ∙ filter-append is_live (take from now) left ∙ ap (λ l. live (take from now) ++ l) end ∙ here.same_run

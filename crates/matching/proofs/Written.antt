@@ -1,9 +1,10 @@
 -- Lines written to a tape, one after another. Assumes nothing.
-use Rattle.std.proofs.Common.{◌≡◌, ℕ, ◌+◌, ◌<◌, ◌≤◌, List, [], ◌∷◌, ◌++◌, length, get_or, take, drop, set, sym, ap, ◌∙◌, arith, length-append, length-drop}
+use Rattle.std.proofs.Common.{◌≡◌, ℕ, ◌+◌, ◌<◌, ◌≤◌, List, [], ◌∷◌, ◌++◌, length, get_or, take, drop, set, sym, refl, ap, ◌∙◌, arith, length-append, length-drop}
 use Rattle.std.proofs.lemmas.List.{append-nil, append_assoc, length-take-le, take-append-drop, take_at, drop_more, set_at}
 use Rattle.std.proofs.lemmas.Slice.{drop-append-drop}
 use Rattle.rules.specs.declared.tape.Line.{Line}
-use Rattle.matching.specs.Tapes.{written}
+use Rattle.matching.specs.declared.lent.Lent.{Lent}
+use Rattle.matching.specs.Tapes.{written, Writes}
 
 module _ (at : ℕ) (ls tape : List Line) (room : at + length ls ≤ length tape) where
   -- what stands in front of what was not written
@@ -37,3 +38,31 @@ written_none at tape = sym (take-append-drop at tape) ∙ (λ t. sym (append-nil
   where
     none : at ≡ at + length {A = Line} []
     none = omega arith
+
+pub written_one : (at : ℕ) (tape : List Line) (l : Line) → at < length tape → set tape at l ≡ written at (l ∷ []) tape
+written_one at tape l room =
+    ap (λ x. set x at l) (written_none at tape)
+    ∙ (λ i. set (written at [] tape) (none i) l)
+    ∙ written_more at [] tape (omega arith) l (omega arith)
+  where
+    none : at ≡ at + length {A = Line} []
+    none = omega arith
+
+-- nothing is written, and the tape is as long as before
+pub writes_none : (l : Lent) → Writes [] l l
+writes_none l = record { tape = written_none l.lines l.tape.now; lines = omega arith; sheet = refl; tape_lender = refl; sheet_lender = refl }
+
+pub length_after : {ls : List Line} {old new : Lent} → Writes ls old new → old.lines + length ls ≤ length old.tape.now → length new.tape.now ≡ length old.tape.now
+length_after {ls} {old} {new} w room = ap length w.tape ∙ length_written old.lines ls old.tape.now room
+
+-- lines, and more lines
+pub writes_twice : {ls ms : List Line} {a b c : Lent} → Writes ls a b → Writes ms b c → a.lines + length (ls ++ ms) ≤ length a.tape.now → Writes (ls ++ ms) a c
+writes_twice {ls} {ms} {a} {b} {c} first second room =
+    let both = length-append ls ms in
+    record {
+      tape = second.tape ∙ (λ t. written (first.lines t) ms (first.tape t)) ∙ written_twice a.lines ls a.tape.now (omega arith) ms (omega arith);
+      lines = omega (arith, first.lines, second.lines);
+      sheet = second.sheet ∙ first.sheet;
+      tape_lender = second.tape_lender ∙ first.tape_lender;
+      sheet_lender = second.sheet_lender ∙ first.sheet_lender;
+    }

@@ -1,2 +1,4 @@
+pub mod Deals
 pub mod Parts
 pub mod Tapes
+pub mod Walks

@@ -1,7 +1,14 @@
 -- Which entries at a price take part in a step, and which are still there. Assumes nothing.
-use Rattle.std.specs.Prelude.{Bool, not, ◌&&◌, List, filter, nat_lt}
+use Rattle.std.specs.Prelude.{ℕ, Bool, not, ◌&&◌, List, map, filter, nat_lt}
+use Rattle.sharing.specs.declared.claims.Claim.{Claim}
+use Rattle.sharing.specs.Claims.{allotment_of}
+use Rattle.rules.specs.declared.ranks.Class as classes
+use Rattle.rules.specs.declared.ranks.Class.TheVariants.{CustomerMarketOrder, OtherMarketOrder, CustomerLimitOrder, OtherInterest}
+use Rattle.rules.specs.declared.tape.Step.{Step}
+use Rattle.rules.specs.declared.tape.Step.TheVariants.{CustomerMarketOrders, OtherMarketOrders, CustomerLimitOrders, OtherInterest as OtherInterestStep}
 use Rattle.rules.specs.declared.terms.Entry.{Entry}
-use Rattle.rules.specs.Level.{in_class, quote_of, specialist}
+use Rattle.rules.specs.Level.{in_class, quote_of, specialist, spread}
+use Rattle.rules.specs.Ranks.{class_number}
 use Rattle.matching.specs.declared.parts.Group.{Group}
 use Rattle.matching.specs.declared.parts.Group.TheVariants.{QuotesOf, Specialists}
 use Rattle.matching.specs.declared.parts.Part.{Part}
@@ -14,9 +21,16 @@ group_test Specialists = specialist
 
 -- a class, a group, or the fourth class without a group
 abbrev pub part_test : Part → Entry → Bool
-part_test (Class k) = in_class k
+part_test (Class k) = in_class (class_number k)
 part_test (Within g) = group_test g
 part_test (Beside g) = λ e. in_class 4 e && not (group_test g e)
+
+-- the step in which a whole class takes part
+abbrev pub step_of : classes.Class → Step
+step_of CustomerMarketOrder = CustomerMarketOrders
+step_of OtherMarketOrder = OtherMarketOrders
+step_of CustomerLimitOrder = CustomerLimitOrders
+step_of OtherInterest = OtherInterestStep
 
 -- an entry with no contracts left is gone, though its place is not closed yet
 abbrev pub is_live : Entry → Bool
@@ -28,3 +42,11 @@ live es = filter is_live es
 -- an entry that is still there takes part
 abbrev pub takes_part : (Entry → Bool) → Entry → Bool
 takes_part test e = is_live e && test e
+
+-- the entries still there that take part
+abbrev pub taking : Part → List Entry → List Entry
+taking part run = filter (part_test part) (live run)
+
+-- what each entry still there gives, where those who take part have the numbers on a sheet, in order
+abbrev pub gives : Part → List Claim → List Entry → List ℕ
+gives part sheet run = spread (part_test part) (map allotment_of sheet) (live run)

@@ -1,9 +1,8 @@
 // Which entries at a price take part in a step.
 ghost use Rattle.std.specs.Prelude.{◌≡◌};
-ghost use Rattle.rules.specs.Level.{is_specialist};
 ghost use Rattle.matching.specs.Parts.{group_test, part_test, takes_part};
 
-use rules::{Entry, Kind};
+use rules::{Class, Entry, Kind};
 
 // The makers with a guarantee: the quotes of the firm that an order is directed to, or all specialist quotes.
 #[derive(Clone, Copy)]
@@ -13,48 +12,36 @@ pub enum Group {
 }
 
 // The entries of a class, a group of makers, or all of the fourth class that are not in it.
+// Stays: the five steps differ by data, and not by copies of code or by closures.
 #[derive(Clone, Copy)]
 pub enum Part {
-    Class(u8),
+    Class(Class),
     Within(Group),
     Beside(Group),
 }
 
-fn is_specialist(kind: Kind) -> bool
-    ensures { result ≡ is_specialist kind }
-{
-    match kind {
-        Kind::SpecialistQuote => true,
-        Kind::Customer | Kind::Other | Kind::MakerQuote => false,
-    }
-}
-
 impl Group {
-    pub fn has(self, e: &Entry) -> bool
+    fn has(self, e: &Entry) -> bool
         ensures { result ≡ group_test self e.now }
     {
-        match self {
-            Group::QuotesOf(firm) => e.class() == 4 && e.kind.is_quote() && e.firm == firm,
-            Group::Specialists => e.class() == 4 && is_specialist(e.kind),
-        }
+        e.class() == Class::OtherInterest
+            && match self {
+                Group::QuotesOf(firm) => e.kind.is_quote() && e.firm == firm,
+                Group::Specialists => e.kind == Kind::SpecialistQuote,
+            }
     }
 }
 
 impl Part {
-    pub fn has(self, e: &Entry) -> bool
-        ensures { result ≡ part_test self e.now }
-    {
-        match self {
-            Part::Class(k) => e.class() == k,
-            Part::Within(group) => group.has(e),
-            Part::Beside(group) => e.class() == 4 && !group.has(e),
-        }
-    }
-
     // The entry has contracts left, and is one of them.
     pub fn takes(self, e: &Entry) -> bool
         ensures { result ≡ takes_part (part_test self) e.now }
     {
-        e.size > 0 && self.has(e)
+        e.size > 0
+            && match self {
+                Part::Class(class) => e.class() == class,
+                Part::Within(group) => group.has(e),
+                Part::Beside(group) => e.class() == Class::OtherInterest && !group.has(e),
+            }
     }
 }

@@ -51,7 +51,6 @@ fn goes_behind_equals(rt: HostRuntime) -> Result<(), Fail> {
     list.insert(keyed(9, 4))?;
     list.insert(keyed(3, 5))?;
     assert_eq!(rt; list.len, 5);
-    let _places = list.places;
     assert_eq!(rt;
         places,
         [
@@ -77,7 +76,6 @@ fn refuses_when_full(rt: HostRuntime) -> Result<(), Fail> {
     list.insert(keyed(1, 1))?;
     assert_eq!(rt; list.insert(keyed(0, 3)), Err(Full));
     assert_eq!(rt; list.len, 2);
-    let _places = list.places;
     assert_eq!(rt; places, [keyed(1, 1), keyed(2, 2)]);
     Ok(())
 }

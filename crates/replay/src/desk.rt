@@ -1,14 +1,15 @@
 // Makes the calls of a sheet on a book, and prints what came of each.
-use crate::printing::{show_answer, show_line, show_refusal};
-use crate::reading::{Call, Means};
-use crate::tickets::{Held, Stop, keep, leave, take};
+use crate::printing::Shown;
+use crate::reading::{Call, MOST, Means};
+use crate::tickets::{Held, Stop, keep, leave, leave_all};
 use book::{Accepted, Book, NotReturned};
-use rules::{Line, Order, Side};
-use sharing::{ByTime, Claim, Rule, SizeProRata};
+use rules::{Line, Order, Refusal, Side};
+use sharing::{ByTime, Claim};
+use std::alloc::Global;
+use std::collections::BTreeMap;
+use std::fmt::Display;
 use std::io;
-
-// The places of the tape and of the claim sheet, of which a call gets the first.
-const MOST: usize = 300;
+use std::str::Lines;
 
 const NO_CLAIM: Claim = Claim {
     size: 0,
@@ -20,207 +21,175 @@ const NO_LINE: Line = Line::Filled { id: 0, firm: 0 };
 
 // An entry that came to rest.
 #[derive(Clone, Copy)]
-pub struct Rested {
+struct Rested {
     id: u64,
     firm: u16,
     side: Side,
 }
 
-// The tickets of a book's orders that are out, and all entries that ever rested there.
-pub struct Desk {
-    pub held: Vec<Held>,
-    pub rested: Vec<Rested>,
+// A claim sheet and a tape, of which a call is lent the first places.
+#[derive(Clone, Copy)]
+struct Lent {
+    sheet: [Claim; MOST],
+    tape: [Line; MOST],
 }
 
-// Prints the lines of a tape, and notes the entry that comes to rest on a side.
-fn show_tape(
-    rt: &impl Print,
-    rested: &mut Vec<Rested>,
-    side: Side,
-    tape: &[Line],
-    lines: usize,
-) -> io::Result<()> {
-    println!(rt; "ok {lines}")?;
-    for line in tape.iter().take(lines) {
-        show_line(rt, *line)?;
-        if let Line::Rest { id, firm, .. } = *line {
-            rested.push(Rested { id, firm, side })?;
+const EMPTY: Lent = Lent {
+    sheet: [NO_CLAIM; MOST],
+    tape: [NO_LINE; MOST],
+};
+
+// A book, the tickets of its orders that are out, and all entries that ever rested there.
+pub struct Desk<'a, P: Print> {
+    rt: &'a P,
+    book: Book<'a>,
+    held: BTreeMap<u64, Held>,
+    rested: Vec<Rested>,
+}
+
+impl<'a, P: Print> Desk<'a, P> {
+    pub fn new(rt: &'a P, heap: Global, book: Book<'a>) -> Self {
+        Desk {
+            rt,
+            book,
+            held: BTreeMap::new(heap),
+            rested: Vec::new(heap),
         }
     }
-    Ok(())
-}
 
-fn enter<R: Rule>(
-    rt: &impl Print,
-    book: &mut Book<'_>,
-    desk: &mut Desk,
-    rule: &R,
-    order: Order,
-    sheet: &mut [Claim],
-    tape: &mut [Line],
-) -> Result<(), Stop> {
-    match book.enter(rule, &order, sheet, tape) {
-        Err(why) => Ok(show_refusal(rt, why)?),
-        Ok(Accepted { lines, ticket }) => {
-            let Order { id, side, .. } = order;
-            if let Some(ticket) = ticket {
-                keep(&mut desk.held, Held { id, side, ticket })?;
+    // Prints the answer of a call without a tape.
+    fn show<N: Display + Drop>(&self, answer: Result<N, Refusal>) -> io::Result<()> {
+        match answer {
+            Ok(n) => println!(self.rt; "ok {n}"),
+            Err(why) => println!(self.rt; "{}", Shown(why)),
+        }
+    }
+
+    // Prints the lines of the tape, and notes the entry that comes to rest on a side.
+    // Stays a tape and a count, as the book answers it: a slice is no plainer, since it needs a proof that the count is within.
+    fn show_tape(&mut self, side: Side, tape: &[Line], lines: usize) -> io::Result<()> {
+        println!(self.rt; "ok {lines}")?;
+        for line in tape.iter().take(lines) {
+            println!(self.rt; "{}", Shown(*line))?;
+            if let Line::Rest { id, firm, .. } = *line {
+                self.rested.push(Rested { id, firm, side })?;
             }
-            Ok(show_tape(rt, &mut desk.rested, side, tape, lines)?)
         }
+        Ok(())
     }
-}
 
-fn give_back<R: Rule>(
-    rt: &impl Print,
-    book: &mut Book<'_>,
-    desk: &mut Desk,
-    rule: &R,
-    one: Held,
-    executed: u32,
-    sheet: &mut [Claim],
-    tape: &mut [Line],
-) -> Result<(), Stop> {
-    let Held { id, side, ticket } = one;
-    match book.give_back(rule, ticket, executed, sheet, tape) {
-        Err(NotReturned { refusal, ticket }) => {
-            keep(&mut desk.held, Held { id, side, ticket })?;
-            Ok(show_refusal(rt, refusal)?)
-        }
-        Ok(lines) => Ok(show_tape(rt, &mut desk.rested, side, tape, lines)?),
-    }
-}
-
-fn enter_with(
-    rt: &impl Print,
-    book: &mut Book<'_>,
-    desk: &mut Desk,
-    means: Means,
-    order: Order,
-) -> Result<(), Stop> {
-    let Means {
-        by_time,
-        tape,
-        sheet,
-    } = means;
-    if sheet > MOST || tape > MOST {
-        return Err(Stop::Unreadable);
-    }
-    let mut sheets = [NO_CLAIM; MOST];
-    let mut tapes = [NO_LINE; MOST];
-    let sheet = &mut sheets[0..sheet];
-    let tape = &mut tapes[0..tape];
-    if by_time {
-        enter(rt, book, desk, &ByTime, order, sheet, tape)
-    } else {
-        enter(rt, book, desk, &SizeProRata, order, sheet, tape)
-    }
-}
-
-fn give_back_with(
-    rt: &impl Print,
-    book: &mut Book<'_>,
-    desk: &mut Desk,
-    means: Means,
-    id: u64,
-    executed: u32,
-) -> Result<(), Stop> {
-    let Means {
-        by_time,
-        tape,
-        sheet,
-    } = means;
-    if sheet > MOST || tape > MOST {
-        return Err(Stop::Unreadable);
-    }
-    let mut sheets = [NO_CLAIM; MOST];
-    let mut tapes = [NO_LINE; MOST];
-    let sheet = &mut sheets[0..sheet];
-    let tape = &mut tapes[0..tape];
-    match take(&mut desk.held, id) {
-        None => Ok(println!(rt; "noticket")?),
-        Some(one) => {
-            if by_time {
-                give_back(rt, book, desk, &ByTime, one, executed, sheet, tape)
-            } else {
-                give_back(rt, book, desk, &SizeProRata, one, executed, sheet, tape)
+    fn enter(&mut self, means: Means, order: Order) -> Result<(), Stop> {
+        let Order { id, side, .. } = order;
+        let mut lent = EMPTY;
+        let sheet = &mut lent.sheet[..means.sheet.count];
+        let tape = &mut lent.tape[..means.tape.count];
+        match self.book.enter(&means.rule, &order, sheet, tape) {
+            Err(why) => Ok(println!(self.rt; "{}", Shown(why))?),
+            Ok(Accepted { lines, ticket }) => {
+                if let Some(ticket) = ticket {
+                    keep(&mut self.held, id, Held { side, ticket })?;
+                }
+                Ok(self.show_tape(side, &lent.tape, lines)?)
             }
         }
     }
-}
 
-fn set_market(
-    rt: &impl Print,
-    book: &mut Book<'_>,
-    desk: &mut Desk,
-    side: Side,
-    price: Option<u32>,
-) -> io::Result<()> {
-    match book.market(side, price) {
-        Err(why) => show_refusal(rt, why),
-        Ok(()) => println!(rt; "ok 0"),
-    }
-}
-
-pub fn make(rt: &impl Print, book: &mut Book<'_>, desk: &mut Desk, call: Call) -> Result<(), Stop> {
-    match call {
-        Call::Enter { means, order } => enter_with(rt, book, desk, means, order),
-        Call::Return {
-            means,
-            id,
-            executed,
-        } => give_back_with(rt, book, desk, means, id, executed),
-        Call::Size { id, firm, size } => {
-            let result = book.resize(id, firm, size);
-            Ok(show_answer(rt, result)?)
+    fn give_back(&mut self, means: Means, id: u64, executed: u32) -> Result<(), Stop> {
+        let Some(Held { side, ticket }) = self.held.remove(&id) else {
+            return Ok(println!(self.rt; "noticket")?);
+        };
+        let mut lent = EMPTY;
+        let sheet = &mut lent.sheet[..means.sheet.count];
+        let tape = &mut lent.tape[..means.tape.count];
+        match self
+            .book
+            .give_back(&means.rule, ticket, executed, sheet, tape)
+        {
+            Err(NotReturned { refusal, ticket }) => {
+                keep(&mut self.held, id, Held { side, ticket })?;
+                Ok(println!(self.rt; "{}", Shown(refusal))?)
+            }
+            Ok(lines) => Ok(self.show_tape(side, &lent.tape, lines)?),
         }
-        Call::Cancel { id, firm } => {
-            let result = book.cancel(id, firm);
-            Ok(show_answer(rt, result)?)
-        }
-        Call::Market { side, price } => Ok(set_market(rt, book, desk, side, price)?),
     }
-}
 
-// Cancels all that rests, and prints how many entries that were on each side, and how many orders are out.
-pub fn show_end(rt: &impl Print, book: &mut Book<'_>, desk: &mut Desk) -> io::Result<()> {
-    let mut bids = 0u32;
-    let mut offers = 0u32;
-    for one in desk.rested.iter() {
-        if book.cancel(one.id, one.firm).is_ok() {
-            match one.side {
-                Side::Buy => bids = bids.saturating_add(1),
-                Side::Sell => offers = offers.saturating_add(1),
+    fn make(&mut self, call: Call) -> Result<(), Stop> {
+        match call {
+            Call::Enter { means, order } => self.enter(means, order),
+            Call::Return {
+                means,
+                id,
+                executed,
+            } => self.give_back(means, id, executed),
+            Call::Size { id, firm, size } => {
+                let answer = self.book.resize(id, firm, size);
+                Ok(self.show(answer)?)
+            }
+            Call::Cancel { id, firm } => {
+                let answer = self.book.cancel(id, firm);
+                Ok(self.show(answer)?)
+            }
+            Call::Market { side, price } => {
+                let answer = self.book.market(side, price);
+                Ok(self.show(answer.map(|()| 0u32))?)
             }
         }
     }
-    let out = desk.held.len();
-    println!(rt; "end {bids} {offers} {out}")
-}
 
-// Gives a ticket back with nothing executed.
-fn give_one_back(book: &mut Book<'_>, one: Held) -> Result<(), Stop> {
-    let Held {
-        id: _,
-        side: _,
-        ticket,
-    } = one;
-    let mut sheet = [NO_CLAIM; MOST];
-    let mut tape = [NO_LINE; MOST];
-    match book.give_back(&ByTime, ticket, 0, &mut sheet, &mut tape) {
-        Err(NotReturned { refusal: _, ticket }) => {
-            leave(ticket);
-            Err(Stop::Left)
-        }
-        Ok(_) => Ok(()),
+    // Cancels all that rests, and answers how many entries that were on a side.
+    fn cancel_all(&mut self, side: Side) -> usize {
+        let book = &mut self.book;
+        self.rested
+            .iter()
+            .filter(|one| one.side == side)
+            .filter(|one| book.cancel(one.id, one.firm).is_ok())
+            .count()
     }
-}
 
-pub fn give_all_back(book: &mut Book<'_>, desk: &mut Desk) -> Result<(), Stop> {
-    for _ in 0..desk.held.len() {
-        if let Some(one) = desk.held.pop() {
-            give_one_back(book, one)?;
-        }
+    // Cancels all that rests, and prints how many entries that were on each side, and how many orders are out.
+    fn show_end(&mut self) -> io::Result<()> {
+        let bids = self.cancel_all(Side::Buy);
+        let offers = self.cancel_all(Side::Sell);
+        let out = self.held.len();
+        println!(self.rt; "end {bids} {offers} {out}")
     }
-    Ok(())
+
+    // Makes the calls of the lines.
+    pub fn run(&mut self, lines: Lines<'_>) -> Result<(), Stop> {
+        println!(self.rt; "ok 0")?;
+        for line in lines {
+            self.make(line.parse::<Call>()?)?;
+        }
+        Ok(self.show_end()?)
+    }
+
+    // Ends the desk after a run: each ticket is given back with nothing executed. Where that fails, or the run did, all are left.
+    pub fn close(self, run: Result<(), Stop>) -> Result<(), Stop> {
+        let Desk {
+            rt: _,
+            mut book,
+            mut held,
+            rested: _,
+        } = self;
+        if let Err(stop) = run {
+            leave_all(held);
+            return Err(stop);
+        }
+        let mut lent = EMPTY;
+        while let Some((_, Held { side: _, ticket })) = held.pop_first() {
+            if let Err(NotReturned { refusal: _, ticket }) = book.give_back(
+                &ByTime,
+                ticket,
+                0,
+                &mut lent.sheet,
+                &mut lent.tape,
+            ) {
+                leave(ticket);
+                leave_all(held);
+                return Err(Stop::Left);
+            }
+        }
+        held.destroy_empty();
+        Ok(())
+    }
 }

@@ -1,48 +1,48 @@
-// Prints what came of a call.
+// What the program prints: answers, and lines of the tape.
 use rules::{Line, Refusal};
-use std::io;
+use std::fmt;
 
-pub fn show_refusal(rt: &impl Print, why: Refusal) -> io::Result<()> {
-    let number = why.number();
-    println!(rt; "refused {number}")
-}
+// A value of the book as the program prints it.
+#[derive(Clone, Copy)]
+pub struct Shown<T>(pub T);
 
-pub fn show_line(rt: &impl Print, line: Line) -> io::Result<()> {
-    match line {
-        Line::Fill {
-            id,
-            firm,
-            size,
-            price,
-            step,
-        } => {
-            let number = step.number();
-            println!(rt; "fill {id} {firm} {size} {price} {number}")
-        }
-        Line::Cancel {
-            id,
-            firm,
-            size,
-            cause,
-        } => {
-            let number = cause.number();
-            println!(rt; "cancel {id} {firm} {size} {number}")
-        }
-        Line::Filled { id, firm } => println!(rt; "filled {id} {firm}"),
-        Line::Rest {
-            id,
-            firm,
-            size,
-            price,
-        } => println!(rt; "rest {id} {firm} {size} {price}"),
-        Line::Route { id, firm, size } => println!(rt; "route {id} {firm} {size}"),
+impl fmt::Display for Shown<Refusal> {
+    fn fmt<W: fmt::Write>(&self, f: &mut fmt::Formatter<W>) -> fmt::Result {
+        let number = self.0.number();
+        write!(f, "refused {number}")
     }
 }
 
-// The answer of a call without a tape.
-pub fn show_answer(rt: &impl Print, res: Result<u32, Refusal>) -> io::Result<()> {
-    match res {
-        Err(why) => show_refusal(rt, why),
-        Ok(answer) => println!(rt; "ok {answer}"),
+impl fmt::Display for Shown<Line> {
+    fn fmt<W: fmt::Write>(&self, f: &mut fmt::Formatter<W>) -> fmt::Result {
+        match self.0 {
+            Line::Fill {
+                id,
+                firm,
+                size,
+                price,
+                step,
+            } => {
+                let number = step.number();
+                write!(f, "fill {id} {firm} {size} {price} {number}")
+            }
+            Line::Cancel {
+                id,
+                firm,
+                size,
+                cause,
+            } => {
+                let number = cause.number();
+                write!(f, "cancel {id} {firm} {size} {number}")
+            }
+            Line::Filled { id, firm } => write!(f, "filled {id} {firm}"),
+            Line::Rest {
+                id,
+                firm,
+                size,
+                price,
+            } => write!(f, "rest {id} {firm} {size} {price}"),
+            Line::Route { id, firm, size } => write!(f, "route {id} {firm} {size}"),
+        }
     }
 }

@@ -1,11 +1,28 @@
-// Reads the lines of a sheet. A line that cannot be read gives nothing.
+// Reads the lines of a sheet, word by word.
+ghost use Rattle.std.specs.Prelude.{◌≤◌};
+
+use crate::shipped::Shipped;
 use rules::{Kind, Order, Side, Term};
-use std::str::SplitWhitespace;
+use std::str::{FromStr, SplitWhitespace};
+
+// The most places that a sheet may ask for: more than a side may have, so that too many can be asked for.
+pub const MOST: usize = 300;
+
+// A line that cannot be read.
+#[derive(Debug, Drop)]
+pub struct Unreadable;
+
+// How many places a side, a tape or a claim sheet has.
+#[derive(Clone, Copy)]
+pub struct Places {
+    pub count: usize,
+    ghost within: { count ≤ 300 },
+}
 
 #[derive(Clone, Copy)]
 pub struct Opening {
-    pub bid_places: usize,
-    pub offer_places: usize,
+    pub bids: Places,
+    pub offers: Places,
     pub tick: u32,
     pub series: u32,
 }
@@ -13,9 +30,9 @@ pub struct Opening {
 // What goes with an entry and a return: the sharing rule, and the places of the tape and of the claim sheet.
 #[derive(Clone, Copy)]
 pub struct Means {
-    pub by_time: bool,
-    pub tape: usize,
-    pub sheet: usize,
+    pub rule: Shipped,
+    pub tape: Places,
+    pub sheet: Places,
 }
 
 #[derive(Clone, Copy)]
@@ -44,144 +61,177 @@ pub enum Call {
     },
 }
 
-fn id(words: &mut SplitWhitespace<'_>) -> Option<u64> {
-    words.next()?.parse::<u64>().ok()
+// What stands in a sheet as one word and is no plain number.
+trait Word: Sized {
+    fn read(word: &str) -> Result<Self, Unreadable>;
 }
 
-fn number(words: &mut SplitWhitespace<'_>) -> Option<u32> {
-    words.next()?.parse::<u32>().ok()
-}
-
-fn firm(words: &mut SplitWhitespace<'_>) -> Option<u16> {
-    words.next()?.parse::<u16>().ok()
-}
-
-fn length(words: &mut SplitWhitespace<'_>) -> Option<usize> {
-    words.next()?.parse::<usize>().ok()
-}
-
-// A price, or `-` where there is none.
-fn price(words: &mut SplitWhitespace<'_>) -> Option<Option<u32>> {
-    let word = words.next()?;
-    if word == "-" {
-        return Some(None);
-    }
-    Some(Some(word.parse::<u32>().ok()?))
-}
-
-fn directed(words: &mut SplitWhitespace<'_>) -> Option<Option<u16>> {
-    let word = words.next()?;
-    if word == "-" {
-        return Some(None);
-    }
-    Some(Some(word.parse::<u16>().ok()?))
-}
-
-// The first of two words is there, or the second.
-fn first_of(words: &mut SplitWhitespace<'_>, first: &str, second: &str) -> Option<bool> {
-    let word = words.next()?;
-    if word == first {
-        return Some(true);
-    }
-    if word == second {
-        return Some(false);
-    }
-    None
-}
-
-fn flag(words: &mut SplitWhitespace<'_>) -> Option<bool> {
-    first_of(words, "1", "0")
-}
-
-fn side(words: &mut SplitWhitespace<'_>) -> Option<Side> {
-    if first_of(words, "buy", "sell")? {
-        Some(Side::Buy)
-    } else {
-        Some(Side::Sell)
+impl Word for Places {
+    fn read(word: &str) -> Result<Places, Unreadable> {
+        match word.parse::<usize>() {
+            Ok(count) if count <= MOST => Ok(Places { count }),
+            _ => Err(Unreadable),
+        }
     }
 }
 
-fn term(words: &mut SplitWhitespace<'_>) -> Option<Term> {
-    if first_of(words, "day", "ioc")? {
-        Some(Term::Day)
-    } else {
-        Some(Term::ImmediateOrCancel)
+impl Word for bool {
+    fn read(word: &str) -> Result<bool, Unreadable> {
+        match word {
+            "1" => Ok(true),
+            "0" => Ok(false),
+            _ => Err(Unreadable),
+        }
     }
 }
 
-fn kind(words: &mut SplitWhitespace<'_>) -> Option<Kind> {
-    match words.next()? {
-        "customer" => Some(Kind::Customer),
-        "other" => Some(Kind::Other),
-        "maker" => Some(Kind::MakerQuote),
-        "specialist" => Some(Kind::SpecialistQuote),
-        _ => None,
+impl Word for Shipped {
+    fn read(word: &str) -> Result<Shipped, Unreadable> {
+        match word {
+            "time" => Ok(Shipped::ByTime),
+            "size" => Ok(Shipped::SizeProRata),
+            _ => Err(Unreadable),
+        }
     }
 }
 
-fn read_means(words: &mut SplitWhitespace<'_>) -> Option<Means> {
-    Some(Means {
-        by_time: first_of(words, "time", "size")?,
-        tape: length(words)?,
-        sheet: length(words)?,
-    })
-}
-
-fn read_order(words: &mut SplitWhitespace<'_>) -> Option<Order> {
-    Some(Order {
-        id: id(words)?,
-        firm: firm(words)?,
-        kind: kind(words)?,
-        side: side(words)?,
-        term: term(words)?,
-        price: price(words)?,
-        size: number(words)?,
-        least: number(words)?,
-        directed: directed(words)?,
-        own_firm_mark: flag(words)?,
-        may_route: flag(words)?,
-    })
-}
-
-pub fn read_opening(line: &str) -> Option<Opening> {
-    let mut words = line.split_whitespace();
-    if words.next()? != "open" {
-        return None;
+impl Word for Side {
+    fn read(word: &str) -> Result<Side, Unreadable> {
+        match word {
+            "buy" => Ok(Side::Buy),
+            "sell" => Ok(Side::Sell),
+            _ => Err(Unreadable),
+        }
     }
-    Some(Opening {
-        bid_places: length(&mut words)?,
-        offer_places: length(&mut words)?,
-        tick: number(&mut words)?,
-        series: number(&mut words)?,
-    })
 }
 
-pub fn read_call(line: &str) -> Option<Call> {
-    let mut words = line.split_whitespace();
-    let name = words.next()?;
-    match name {
-        "enter" => Some(Call::Enter {
-            means: read_means(&mut words)?,
-            order: read_order(&mut words)?,
-        }),
-        "return" => Some(Call::Return {
-            means: read_means(&mut words)?,
-            id: id(&mut words)?,
-            executed: number(&mut words)?,
-        }),
-        "size" => Some(Call::Size {
-            id: id(&mut words)?,
-            firm: firm(&mut words)?,
-            size: number(&mut words)?,
-        }),
-        "cancel" => Some(Call::Cancel {
-            id: id(&mut words)?,
-            firm: firm(&mut words)?,
-        }),
-        "market" => Some(Call::Market {
-            side: side(&mut words)?,
-            price: price(&mut words)?,
-        }),
-        _ => None,
+impl Word for Term {
+    fn read(word: &str) -> Result<Term, Unreadable> {
+        match word {
+            "day" => Ok(Term::Day),
+            "ioc" => Ok(Term::ImmediateOrCancel),
+            _ => Err(Unreadable),
+        }
+    }
+}
+
+impl Word for Kind {
+    fn read(word: &str) -> Result<Kind, Unreadable> {
+        match word {
+            "customer" => Ok(Kind::Customer),
+            "other" => Ok(Kind::Other),
+            "maker" => Ok(Kind::MakerQuote),
+            "specialist" => Ok(Kind::SpecialistQuote),
+            _ => Err(Unreadable),
+        }
+    }
+}
+
+// The words of a line that are still to be read.
+#[derive(Drop)]
+struct Words<'a>(SplitWhitespace<'a>);
+
+impl<'a> Words<'a> {
+    fn text(&mut self) -> Result<&'a str, Unreadable> {
+        self.0.next().ok_or(Unreadable)
+    }
+
+    fn next<T: Word>(&mut self) -> Result<T, Unreadable> {
+        T::read(self.text()?)
+    }
+
+    fn number<T: FromStr>(&mut self) -> Result<T, Unreadable>
+    where
+        T::Err: Drop,
+    {
+        self.text()?.parse::<T>().map_err(|_| Unreadable)
+    }
+
+    // A number, or `-` where there is none.
+    fn number_if_any<T: FromStr + Drop>(&mut self) -> Result<Option<T>, Unreadable>
+    where
+        T::Err: Drop,
+    {
+        match self.text()? {
+            "-" => Ok(None),
+            word => match word.parse::<T>() {
+                Ok(number) => Ok(Some(number)),
+                Err(_) => Err(Unreadable),
+            },
+        }
+    }
+
+    fn means(&mut self) -> Result<Means, Unreadable> {
+        Ok(Means {
+            rule: self.next()?,
+            tape: self.next()?,
+            sheet: self.next()?,
+        })
+    }
+
+    fn order(&mut self) -> Result<Order, Unreadable> {
+        Ok(Order {
+            id: self.number()?,
+            firm: self.number()?,
+            kind: self.next()?,
+            side: self.next()?,
+            term: self.next()?,
+            price: self.number_if_any()?,
+            size: self.number()?,
+            least: self.number()?,
+            directed: self.number_if_any()?,
+            own_firm_mark: self.next()?,
+            may_route: self.next()?,
+        })
+    }
+}
+
+impl FromStr for Opening {
+    type Err = Unreadable;
+
+    fn from_str(line: &str) -> Result<Opening, Unreadable> {
+        let mut words = Words(line.split_whitespace());
+        match words.text()? {
+            "open" => Ok(Opening {
+                bids: words.next()?,
+                offers: words.next()?,
+                tick: words.number()?,
+                series: words.number()?,
+            }),
+            _ => Err(Unreadable),
+        }
+    }
+}
+
+impl FromStr for Call {
+    type Err = Unreadable;
+
+    fn from_str(line: &str) -> Result<Call, Unreadable> {
+        let mut words = Words(line.split_whitespace());
+        match words.text()? {
+            "enter" => Ok(Call::Enter {
+                means: words.means()?,
+                order: words.order()?,
+            }),
+            "return" => Ok(Call::Return {
+                means: words.means()?,
+                id: words.number()?,
+                executed: words.number()?,
+            }),
+            "size" => Ok(Call::Size {
+                id: words.number()?,
+                firm: words.number()?,
+                size: words.number()?,
+            }),
+            "cancel" => Ok(Call::Cancel {
+                id: words.number()?,
+                firm: words.number()?,
+            }),
+            "market" => Ok(Call::Market {
+                side: words.next()?,
+                price: words.number_if_any()?,
+            }),
+            _ => Err(Unreadable),
+        }
     }
 }

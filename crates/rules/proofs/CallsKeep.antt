@@ -1,7 +1,8 @@
 -- Every accepted call leaves the book sound. Assumes nothing.
 use Rattle.std.proofs.Common.{◌≡◌, ℕ, ◌+◌, ◌-◌, ◌<◌, ◌≤◌, Bool, true, false, cond, not, ◌&&◌, ◌||◌, eqb, ltb, leb, ◌⊎◌, List, [], ◌∷◌, ◌++◌, length, is_some, Some, None, filter, Option, unwrap_or, sym, refl, ap, ◌∙◌, subst, inl, inr, ⊎_elim, arith}
 use Rattle.std.specs.List.{AllByRecursion}
-use Rattle.std.proofs.lemmas.Bool.{true≢false, false≢true, cases_Bool, cond_both, cond-true, cond-false, and_parts, or_parts, not-false, eqb-true, eqb-false, leb-true, leb-false, ltb-false}
+use Rattle.std.proofs.lemmas.Bool.Decides.{nat_tests}
+use Rattle.std.proofs.lemmas.Bool.{false≢true, cases_Bool, cond_both, cond-true, cond-false, and_parts, eqb-false, leb-false, ltb-false}
 use Rattle.sharing.specs.Rules.{by_time}
 use Rattle.sharing.specs.Sharing.{Sharing}
 use Rattle.sharing.specs.Totals.{one_if, count}
@@ -14,17 +15,16 @@ use Rattle.rules.specs.declared.terms.Entry.{Entry}
 use Rattle.rules.specs.declared.terms.Routed.{Routed}
 use Rattle.rules.specs.declared.terms.Side.{Side}
 use Rattle.rules.specs.declared.terms.Side.TheVariants.{Buy, Sell}
-use Rattle.rules.specs.Calls.{Entering, entry_of, entry_checks, reference, capped, least_missed, missed, Returning, without_row, return_checks, returned, return_of, Resizing, without_entry, enlarged, reduced_in, after_resize, resize_checks, resting_checks, resize_at, resize_of, Cancelling, cancel_checks, cancel_at, cancel_of, Updating, market_checks, market_of, bad_places, opened, opening_checks, opening_of}
+use Rattle.rules.specs.Calls.{Entering, entry_of, entry_checks, reference, capped, least_missed, missed, Returning, without_row, return_checks, returned, return_of, Resizing, without_entry, enlarged, reduced_in, after_resize, resize_checks, resting_checks, resize_at, resize_of, Cancelling, cancel_checks, cancel_at, cancel_of, Updating, market_checks, market_of, opened, opening_checks, opening_of}
 use Rattle.rules.specs.Caps.{is_ioc, is_quote}
-use Rattle.rules.specs.Checks.{market_ioc, bad_least, bad_quote}
 use Rattle.rules.specs.Laws.{LeftOf}
 use Rattle.rules.specs.Laws.LeftOf.{same, fewer}
-use Rattle.rules.specs.Level.{resized, Deal, step, in_class, in_group, acts, for_group, makers, unbarred, level}
+use Rattle.rules.specs.Level.{resized, Deal, step, in_class, in_group, for_group, makers, unbarred, level}
 use Rattle.rules.specs.Model.{Model, Opening, entries, away, places, with_entries, with_away, with_out, with_last_id, with_last_time, best, national_best, ranked_in}
 use Rattle.rules.specs.Outcome.{Done, Outcome, Check, checked, lent_checks, bad_price, found_in, entry_with, row_with, standing_by}
 use Rattle.rules.specs.Outcome.Standing.{resting}
 use Rattle.rules.specs.Outcome.Outcome.{refused, done}
-use Rattle.rules.specs.Prices.{in_reach, is_tick, is_price, is_size}
+use Rattle.rules.specs.Prices.{in_reach, is_price}
 use Rattle.rules.specs.Sides.{other_side}
 use Rattle.rules.specs.Sound.{GoodEntry, GoodRow, standing_with, Sound, Keeps, Kept}
 use Rattle.rules.specs.Trade.{away_in_cap, Ending, ending, sized, resting_entry, ended, traded, finished, trade}
@@ -32,6 +32,7 @@ use Rattle.rules.specs.Trade.Ending.{is_filled, is_routed, is_cancelled, rests}
 use Rattle.rules.specs.Walk.{at_price, is_price_of, runs, flat, walk}
 use Rattle.rules.proofs.CapPrices.{cap_price, national_price, best_price}
 use Rattle.rules.proofs.Leaves.{count_left, left_refl, left_append, left_kept, level_leaves, runs_are_whole}
+use Rattle.rules.proofs.OnePrice.{makers_by}
 use Rattle.rules.proofs.Moves.{has_id, counts, good_side, thinned, recounted, rested, sent_out, given_back, stands_nowhere}
 
 -- a call is refused, or none of its checks fits and it is carried out
@@ -48,13 +49,10 @@ unfolding step
 step_balance k test rule amount d = omega arith
 
 makers_balance : (rule : Sharing) (at_best : Bool) (directed : Option ℕ) (d : Deal) → (makers rule at_best directed d).balance ≤ d.balance
-unfolding makers
 makers_balance rule at_best directed d =
-    let group = in_group directed d.run in
-    let others : Entry → Bool = λ e. in_class 4 e && not (group e) in
-    let fourth = step GuaranteedQuotes group rule (for_group directed d) d in
-    cond_both (acts at_best directed d) (step OtherInterest others rule fourth.balance fourth) (step OtherInterest (in_class 4) rule d.balance d) (λ e. e.balance ≤ d.balance)
-    (λ _. omega (arith, step_balance OtherInterest others rule fourth.balance fourth, step_balance GuaranteedQuotes group rule (for_group directed d) d))
+    let fourth = step GuaranteedQuotes (in_group directed d.run) rule (for_group directed d) d in
+    makers_by (λ e. e.balance ≤ d.balance) rule at_best directed d
+    (λ _. omega (arith, step_balance OtherInterest (λ e. in_class 4 e && not (in_group directed d.run e)) rule fourth.balance fourth, step_balance GuaranteedQuotes (in_group directed d.run) rule (for_group directed d) d))
     (λ _. step_balance OtherInterest (in_class 4) rule d.balance d)
 
 pub level_balance : (rule : Sharing) (o : Routed) (at_best : Bool) (balance : ℕ) (run : List Entry) → (level rule o at_best balance run).balance ≤ balance
@@ -134,22 +132,6 @@ trade_keeps rule o may m sound fresh price size id bound place =
     (omega (arith, ap (λ x. x.last_time) same.3, ap (λ x. length x) same.2))
     (λ goes. omega (arith, place goes, ap (λ x. length x) same.2))
 
--- terms that do not clash give a Market Order no limit to be immediate or a quote by
-quote_priced : (some ioc quote x : Bool) → (not some && ioc) ≡ false → (quote && (ioc || (not some || x))) ≡ false → some ≡ false → (ioc || quote) ≡ false
-quote_priced true ioc quote x p q none = absurd (true≢false none)
-quote_priced false true quote x p q none = absurd (true≢false p)
-quote_priced false false true x p q none = absurd (true≢false q)
-quote_priced false false false x p q none = refl
-
-known : (some there : Bool) → (not some && not there) ≡ false → some ≡ false → there ≡ true
-known true there p none = absurd (true≢false none)
-known false true p none = refl
-known false false p none = absurd (true≢false p)
-
-pub implied : (a b : Bool) → (a && b) ≡ false → a ≡ true → b ≡ false
-implied true b p q = p
-implied false b p q = absurd (false≢true q)
-
 away_good : (s : Side) (m : Model) → Sound m → bad_price m.opening.tick (away s m) ≡ false
 away_good Buy m sound = sound.away_bid
 away_good Sell m sound = sound.away_offer
@@ -168,30 +150,26 @@ entry_fits c m sound all =
     let o = c.order in
     let tick = m.opening.tick in
     let a = all.1.1 in
-    let size = and_parts (leb 1 o.size) (leb o.size 99999) (not-false (is_size o.size) a.1.1.0) in
     let price = a.1.1.1.0 in
     let clash = a.1.1.1.1.0 in
     let sixteen = a.1.1.1.1.1.1.0 in
     let referred = a.1.1.1.1.1.1.1.1.0 in
-    let clashes = or_parts (market_ioc o) (bad_least o || bad_quote o) clash in
-    let quotes = or_parts (bad_least o) (bad_quote o) clashes.1 in
-    let some = is_some o.price in
     let contra = other_side o.side in
     let far = national_price tick contra (best (entries contra m)) (away contra m) (best_price tick m.counters (entries contra m) (good_side contra m sound).good) (away_good contra m sound) in
     record {
       above = leb-false o.id m.counters.last_id a.0;
-      some = leb-true 1 o.size size.0;
-      most = leb-true o.size 99999 size.1;
+      some = grind (arith, nat_tests, a.1.1.0);
+      most = grind (arith, nat_tests, a.1.1.0);
       cap = cap_price tick sound.tick o.side o.price (reference o m) (is_ioc o.term || is_quote o.kind)
-          (quote_priced some (is_ioc o.term) (is_quote o.kind) (is_some o.directed || o.may_route) clashes.0 quotes.1)
-          (known some (is_some (reference o m)) referred) price far;
+          (λ none. grind (arith, nat_tests, clash))
+          (λ none. grind (arith, nat_tests, referred)) price far;
       time = ltb-false 4000000000 m.counters.last_time a.1.1.1.1.1.0;
-      room = λ goes. leb-false 16 (length m.out) (implied o.may_route (leb 16 (length m.out)) sixteen goes);
+      room = λ goes. grind (arith, nat_tests, sixteen);
     }
 
 -- the book with the order's id counted
 pub counted_sound : (c : Entering) (m : Model) → Sound m → EntryFits c m → Sound (with_last_id c.order.id m)
-counted_sound c m sound fits = recounted (record { last_id = c.order.id; last_time = m.counters.last_time }) m sound (omega (arith, fits.above)) (omega arith) sound.bounded
+counted_sound c m sound fits = recounted (record m.counters { last_id = c.order.id }) m sound (omega (arith, fits.above)) (omega arith) sound.bounded
 
 entry_keeps : (rule : Sharing) (c : Entering) (m : Model) → Sound m → Keeps (entry_of rule c m)
 unfolding entry_of
@@ -220,33 +198,22 @@ module _ {X : Type 0} (id : X → ℕ) (i : ℕ) where
 
   pub found_id : (xs : List X) (y : X) → found_in id i xs ≡ Some y → id y ≡ i
   found_id [] y found = absurd (false≢true (ap is_some found))
-  found_id (x ∷ xs) y found = ⊎_elim (λ here. sym (ap id here.1) ∙ eqb-true (id x) i here.0) (λ away. found_id xs y away.1) (found_head x xs y found)
+  found_id (x ∷ xs) y found = grind (arith, nat_tests, found_id xs y)
 
   abbrev others : List X → List X
   others xs = filter (λ x. not (eqb (id x) i)) xs
 
   pub others_none : (xs : List X) → count (λ x. eqb (id x) i) (others xs) ≡ 0
   others_none [] = refl
-  others_none (x ∷ xs) =
-      let more = others_none xs in
-      elim (eqb (id x) i) as (λ b. (eqb (id x) i ≡ b) → count (λ y. eqb (id y) i) (cond (not b) (x ∷ others xs) (others xs)) ≡ 0) [
-        | true ↦ λ _. more
-        | false ↦ λ e. let none = ap one_if e in omega arith
-      ] refl
+  others_none (x ∷ xs) = grind (arith, nat_tests, others_none xs)
 
   pub others_fewer : (xs : List X) → length (others xs) + count (λ x. eqb (id x) i) xs ≡ length xs
   others_fewer [] = refl
-  others_fewer (x ∷ xs) =
-      let more = others_fewer xs in
-      elim (eqb (id x) i) as (λ b. length (cond (not b) (x ∷ others xs) (others xs)) + (one_if b + count (λ y. eqb (id y) i) xs) ≡ length (x ∷ xs)) [
-        | true ↦ omega arith
-        | false ↦ omega arith
-      ]
+  others_fewer (x ∷ xs) = grind (arith, nat_tests, others_fewer xs)
 
   pub found_counts : (xs : List X) (y : X) → found_in id i xs ≡ Some y → 1 ≤ count (λ x. eqb (id x) i) xs
   found_counts [] y found = absurd (false≢true (ap is_some found))
-  found_counts (x ∷ xs) y found =
-      ⊎_elim (λ here. let one = ap one_if here.0 in omega arith) (λ away. omega (arith, found_counts xs y away.1)) (found_head x xs y found)
+  found_counts (x ∷ xs) y found = grind (arith, nat_tests, found_counts xs y)
 
 return_keeps : (rule : Sharing) (c : Returning) (m : Model) → Sound m → Keeps (return_of rule c m)
 unfolding return_of
@@ -292,14 +259,10 @@ opening_keeps : (c : Opening) → Keeps (opening_of c)
 unfolding opening_of
 opening_keeps c =
     checked_keeps (opening_checks c) (done (record { answer = 0; lines = []; after = opened c; ticket = None })) (λ all.
-    let sides = or_parts (bad_places c.bid_places) (bad_places c.offer_places) all.0 in
-    let bids = or_parts (eqb c.bid_places 0) (ltb 256 c.bid_places) sides.0 in
-    let offers = or_parts (eqb c.offer_places 0) (ltb 256 c.offer_places) sides.1 in
-    let rest = or_parts (not (is_tick c.tick)) (eqb c.series 0) all.1.0 in
     record {
-      tick = not-false (is_tick c.tick) rest.0;
-      bid_places = ltb-false 256 c.bid_places bids.1;
-      offer_places = ltb-false 256 c.offer_places offers.1;
+      tick = grind (arith, nat_tests, all.1.0);
+      bid_places = grind (arith, nat_tests, all.0);
+      offer_places = grind (arith, nat_tests, all.0);
       bids = record { ranked = tt; good = tt; few = omega arith };
       offers = record { ranked = tt; good = tt; few = omega arith };
       away_bid = refl;
@@ -313,11 +276,7 @@ opening_keeps c =
 -- a smaller or an equal size of the one entry with its id
 pub reduced_none : (i n : ℕ) (es : List Entry) → count (has_id i) es ≡ 0 → reduced_in i n es ≡ es
 reduced_none i n [] none = refl
-reduced_none i n (e ∷ es) none =
-    ⊎_elim
-    (λ here. absurd (let one = ap one_if here in omega arith))
-    (λ away. let zero = ap one_if away in λ t. cond-false (eqb e.id i) (resized n e) e away t ∷ reduced_none i n es (omega arith) t)
-    (cases_Bool (eqb e.id i))
+reduced_none i n (e ∷ es) none = grind (arith, nat_tests, reduced_none i n es)
 
 reduced_left : (i n : ℕ) (es : List Entry) (e : Entry) → entry_with i es ≡ Some e → count (has_id i) es ≤ 1 → 1 ≤ n → n ≤ e.size → LeftOf es (reduced_in i n es)
 reduced_left i n [] e found once one le = absurd (false≢true (ap is_some found))
@@ -366,11 +325,10 @@ resize_keeps c m sound = go (entry_with c.id m.bids) refl (entry_with c.id m.off
   where
     resting_at : (s : Side) (e : Entry) → entry_with c.id (entries s m) ≡ Some e → Keeps (resize_at c m (resting s e))
     resting_at s e found = checked_keeps (resting_checks c m e) (done (record { answer = c.size; lines = []; after = after_resize c s e m; ticket = None })) (λ all.
-        let size = and_parts (leb 1 c.size) (leb c.size 99999) (not-false (is_size c.size) all.1.0) in
-        let some = leb-true 1 c.size size.0 in
-        let most = leb-true c.size 99999 size.1 in
+        let some : 1 ≤ c.size = grind (arith, nat_tests, all.1.0) in
+        let most : c.size ≤ 99999 = grind (arith, nat_tests, all.1.0) in
         cond_both (ltb e.size c.size) _ _ Sound
-        (λ larger. enlarged_keeps c s e m sound found some most (ltb-false 4000000000 m.counters.last_time (implied (ltb e.size c.size) (ltb 4000000000 m.counters.last_time) all.1.1.1.0 larger)))
+        (λ larger. enlarged_keeps c s e m sound found some most (grind (arith, nat_tests, all.1.1.1.0)))
         (λ not_larger. thinned s (reduced_in c.id c.size (entries s m)) m sound (reduced_left c.id c.size (entries s m) e found (side_once s m sound c.id) some (ltb-false e.size c.size not_larger))))
 
     go : (b : Option Entry) → entry_with c.id m.bids ≡ b → (o : Option Entry) → entry_with c.id m.offers ≡ o → (r : Option Routed) → Keeps (resize_at c m (standing_by b o r))

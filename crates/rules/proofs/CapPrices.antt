@@ -1,7 +1,8 @@
 -- A cap is a price. Assumes nothing.
-use Rattle.std.proofs.Common.{◌≡◌, ℕ, ◌+◌, ◌-◌, ◌*◌, ◌%◌, ◌≤◌, min, Bool, true, false, cond, not, ◌&&◌, eqb, leb, List, [], ◌∷◌, is_some, Some, None, Option, unwrap_or, sym, refl, ap, ◌∙◌, subst, ⊎_elim, arith}
+use Rattle.std.proofs.Common.{◌≡◌, ℕ, ◌+◌, ◌-◌, ◌%◌, ◌≤◌, min, Bool, true, false, cond, not, leb, List, [], ◌∷◌, is_some, Some, None, Option, unwrap_or, refl, ap, arith}
 use Rattle.std.specs.List.{AllByRecursion}
-use Rattle.std.proofs.lemmas.Bool.{false≢true, true≢false, and_parts, and_from, eqb-true, eq-eqb, leb-true, le-leb, not-false, cond_both}
+use Rattle.std.proofs.lemmas.Bool.Decides.{nat_tests}
+use Rattle.std.proofs.lemmas.Bool.{false≢true, true≢false, leb-true, not-false, cond_both}
 use Rattle.rules.specs.declared.terms.Entry.{Entry}
 use Rattle.rules.specs.declared.terms.Side.{Side}
 use Rattle.rules.specs.declared.terms.Side.TheVariants.{Buy, Sell}
@@ -11,69 +12,28 @@ use Rattle.rules.specs.Outcome.{bad_price}
 use Rattle.rules.specs.Prices.{is_tick, is_price, national}
 use Rattle.rules.specs.Sides.{is_better}
 use Rattle.rules.specs.Sound.{GoodEntry}
-use Rattle.rules.proofs.Collars.{tick_cases, in_tens}
+use Rattle.rules.proofs.Collars.{in_tens, at_tick}
 
-price_parts : (tick p : ℕ) → is_price tick p ≡ true → (1 ≤ p) × (p ≤ 1000000) × (p % tick ≡ 0)
-price_parts tick p h =
-    let low = and_parts (leb 1 p) (leb p 1000000 && eqb (p % tick) 0) h in
-    let high = and_parts (leb p 1000000) (eqb (p % tick) 0) low.1 in
-    (leb-true 1 p low.0, leb-true p 1000000 high.0, eqb-true (p % tick) 0 high.1)
+-- a price that is moved by a multiple of ten cents, and stays in range, is a price
+buyer_price : (r n : ℕ) → n % 10 ≡ 0 → (tick : ℕ) → is_tick tick ≡ true → is_price tick r ≡ true → is_price tick (min 1000000 (r + n)) ≡ true
+buyer_price r n tens = at_tick (λ t. is_price t r ≡ true → is_price t (min 1000000 (r + n)) ≡ true) (λ p. grind (arith, nat_tests)) (λ p. grind (arith, nat_tests)) (λ p. grind (arith, nat_tests))
 
-price_from : (tick p : ℕ) → 1 ≤ p → p ≤ 1000000 → p % tick ≡ 0 → is_price tick p ≡ true
-price_from tick p low high whole = and_from (leb 1 p) (leb p 1000000 && eqb (p % tick) 0) (le-leb 1 p low) (and_from (leb p 1000000) (eqb (p % tick) 0) (le-leb p 1000000 high) (eq-eqb (p % tick) 0 whole))
-
--- at a literal tick
-above_1 : (r k : ℕ) → min 1000000 (r + 10 * k) % 1 ≡ 0
-above_1 r k = omega arith
-
-above_5 : (r k : ℕ) → r % 5 ≡ 0 → min 1000000 (r + 10 * k) % 5 ≡ 0
-above_5 r k whole = omega arith
-
-above_10 : (r k : ℕ) → r % 10 ≡ 0 → min 1000000 (r + 10 * k) % 10 ≡ 0
-above_10 r k whole = omega arith
-
-below_1 : (r k : ℕ) → (r - 10 * k) % 1 ≡ 0
-below_1 r k = omega arith
-
-below_5 : (r k : ℕ) → r % 5 ≡ 0 → 10 * k ≤ r → (r - 10 * k) % 5 ≡ 0
-below_5 r k whole le = omega arith
-
-below_10 : (r k : ℕ) → r % 10 ≡ 0 → 10 * k ≤ r → (r - 10 * k) % 10 ≡ 0
-below_10 r k whole le = omega arith
+seller_price : (r n : ℕ) → n % 10 ≡ 0 → (tick : ℕ) → is_tick tick ≡ true → is_price tick r ≡ true → n + tick ≤ r → is_price tick (r - n) ≡ true
+seller_price r n tens = at_tick (λ t. is_price t r ≡ true → n + t ≤ r → is_price t (r - n) ≡ true) (λ p le. grind (arith, nat_tests)) (λ p le. grind (arith, nat_tests)) (λ p le. grind (arith, nat_tests))
 
 module _ (tick : ℕ) (valid : is_tick tick ≡ true) where
-  by_tick : (P : ℕ → Type 0) → P 1 → P 5 → P 10 → P tick
-  by_tick P one five ten = ⊎_elim (λ e. subst P (sym e) one) (⊎_elim (λ e. subst P (sym e) five) (λ e. subst P (sym e) ten)) (tick_cases tick valid)
-
   tick_price : is_price tick tick ≡ true
-  tick_price = by_tick (λ t. is_price t t ≡ true) refl refl refl
-
-  some_tick : 1 ≤ tick
-  some_tick = by_tick (λ t. 1 ≤ t) (omega arith) (omega arith) (omega arith)
-
-  buyer_whole : (r k : ℕ) → r % tick ≡ 0 → min 1000000 (r + 10 * k) % tick ≡ 0
-  buyer_whole r k = by_tick (λ t. r % t ≡ 0 → min 1000000 (r + 10 * k) % t ≡ 0) (λ _. above_1 r k) (above_5 r k) (above_10 r k)
-
-  seller_whole : (r k : ℕ) → r % tick ≡ 0 → 10 * k ≤ r → (r - 10 * k) % tick ≡ 0
-  seller_whole r k = by_tick (λ t. r % t ≡ 0 → 10 * k ≤ r → (r - 10 * k) % t ≡ 0) (λ _ _. below_1 r k) (below_5 r k) (below_10 r k)
+  tick_price = at_tick (λ t. is_price t t ≡ true) refl refl refl tick valid
 
   or_tick : (limit : Option ℕ) → bad_price tick limit ≡ false → is_price tick (unwrap_or limit tick) ≡ true
   or_tick None h = tick_price
   or_tick (Some p) h = not-false (is_price tick p) h
 
   collar_price : (s : Side) (limit : Option ℕ) (r : ℕ) → is_price tick r ≡ true → bad_price tick limit ≡ false → is_price tick (collar_of s tick limit r) ≡ true
-  collar_price Buy limit r price good =
-      let parts = price_parts tick r price in
-      let tens = in_tens r in
-      price_from tick (min 1000000 (r + collar_amount r)) (omega (arith, parts.0)) (omega arith)
-      (ap (λ n. min 1000000 (r + n) % tick) tens.1 ∙ buyer_whole r tens.0 parts.2)
+  collar_price Buy limit r price good = buyer_price r (collar_amount r) (in_tens r) tick valid price
   collar_price Sell limit r price good =
-      let parts = price_parts tick r price in
-      let tens = in_tens r in
       cond_both (leb (collar_amount r + tick) r) (r - collar_amount r) (unwrap_or limit tick) (λ p. is_price tick p ≡ true)
-      (λ yes.
-      let enough = leb-true (collar_amount r + tick) r yes in
-      price_from tick (r - collar_amount r) (omega (arith, some_tick)) (omega (arith, parts.1)) (ap (λ n. (r - n) % tick) tens.1 ∙ seller_whole r tens.0 parts.2 (omega (arith, tens.1))))
+      (λ yes. seller_price r (collar_amount r) (in_tens r) tick valid price (leb-true (collar_amount r + tick) r yes))
       (λ _. or_tick limit good)
 
   pub cap_price : (s : Side) (p reference : Option ℕ) (b : Bool) → (is_some p ≡ false → b ≡ false) → (is_some p ≡ false → is_some reference ≡ true) → bad_price tick p ≡ false → bad_price tick reference ≡ false → is_price tick (unwrap_or (cond b p (cap_at s tick p reference)) 0) ≡ true

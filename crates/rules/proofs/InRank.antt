@@ -1,47 +1,31 @@
 -- Sides stay in rank: after what is left, after an insertion, after entries go. Assumes nothing.
-use Rattle.std.proofs.Common.{◌≡◌, ℕ, ◌<◌, ◌≤◌, true, false, List, [], ◌∷◌, length, arith}
+use Rattle.std.proofs.Common.{◌≡◌, ℕ, ◌<◌, true, List, [], ◌∷◌, arith}
 use Rattle.std.specs.List.{AllByRecursion}
 use Rattle.std.proofs.ByRecursion.{All-weaker}
-use Rattle.std.proofs.lemmas.Bool.{cond_both}
+use Rattle.std.proofs.lemmas.Bool.{cond_both, true_from_ne_false}
 use Rattle.std.proofs.lemmas.Bool.Decides.{nat_tests}
 use Rattle.ranked.specs.Ranked.{ahead}
-use Rattle.ranked.proofs.Orderly.{so, all_inserted_into}
+use Rattle.ranked.proofs.Orderly.{all_inserted_into}
 use Rattle.rules.specs.declared.terms.Entry.{Entry}
 use Rattle.rules.specs.declared.terms.Side.{Side}
 use Rattle.rules.specs.declared.terms.Side.TheVariants.{Buy, Sell}
 use Rattle.rules.specs.Laws.{LeftOf}
 use Rattle.rules.specs.Laws.LeftOf.{none, gone, same, fewer}
-use Rattle.rules.specs.Level.{resized}
 use Rattle.rules.specs.Model.{ranked_in}
 use Rattle.rules.specs.Ranks.{rank_of, rank_before}
 use Rattle.rules.specs.Sound.{InRank}
+use Rattle.rules.specs.TotalRanks.{same_time}
+pub use Rattle.rules.proofs.LeftOver.{all_left_of, length_left_of}
 
 pub rank_transitive : (s : Side) (r t u : ℕ × ℕ × ℕ) → rank_before s r t ≡ true → rank_before s t u ≡ true → rank_before s r u ≡ true
 rank_transitive Buy r t u p q = grind (arith, nat_tests)
 rank_transitive Sell r t u p q = grind (arith, nat_tests)
-
-rank_times : (s : Side) (r t : ℕ × ℕ × ℕ) → rank_before s r t ≡ false → rank_before s t r ≡ false → r.2 ≡ t.2
-rank_times Buy r t p q = grind (arith, nat_tests)
-rank_times Sell r t p q = grind (arith, nat_tests)
-
--- what holds of each entry, whatever it holds, holds of each that is left
-pub all_left_of : (P : Entry → Type 0) → ((n : ℕ) (e : Entry) → 1 ≤ n → n ≤ e.size → P e → P (resized n e)) → {es fs : List Entry} → LeftOf es fs → AllByRecursion P es → AllByRecursion P fs
-all_left_of P keeps none ps = tt
-all_left_of P keeps (gone g) ps = all_left_of P keeps g ps.1
-all_left_of P keeps (same g) ps = (ps.0, all_left_of P keeps g ps.1)
-all_left_of P keeps (fewer {e} n one le g) ps = (keeps n e one le ps.0, all_left_of P keeps g ps.1)
 
 pub in_rank_left : (s : Side) {es fs : List Entry} → LeftOf es fs → InRank s es → InRank s fs
 in_rank_left s none r = tt
 in_rank_left s (gone g) r = in_rank_left s g r.1
 in_rank_left s (same {e} g) r = (all_left_of (λ f. rank_before s (rank_of e) (rank_of f) ≡ true) (λ n f one le h. h) g r.0, in_rank_left s g r.1)
 in_rank_left s (fewer {e} n one le g) r = (all_left_of (λ f. rank_before s (rank_of e) (rank_of f) ≡ true) (λ m f one' le' h. h) g r.0, in_rank_left s g r.1)
-
-pub length_left_of : {es fs : List Entry} → LeftOf es fs → length fs ≤ length es
-length_left_of none = omega arith
-length_left_of (gone g) = omega (arith, length_left_of g)
-length_left_of (same g) = omega (arith, length_left_of g)
-length_left_of (fewer n one le g) = omega (arith, length_left_of g)
 
 -- an entry with a later time than all finds its place
 pub in_rank_inserted : (s : Side) (e : Entry) (es : List Entry) → AllByRecursion (λ f. f.time < e.time) es → InRank s es → InRank s (ranked_in s e es)
@@ -50,5 +34,5 @@ in_rank_inserted s e (f ∷ fs) later r =
     cond_both (rank_before s (rank_of e) (rank_of f)) (e ∷ f ∷ fs) (f ∷ ranked_in s e fs) (InRank s)
     (λ first. ((first, All-weaker (λ g. rank_before s (rank_of f) (rank_of g) ≡ true) (λ g. rank_before s (rank_of e) (rank_of g) ≡ true) (λ g h. rank_transitive s (rank_of e) (rank_of f) (rank_of g) first h) fs r.0), r))
     (λ behind.
-    let ahead_of_it = so (rank_before s (rank_of f) (rank_of e)) (λ neither. omega (arith, rank_times s (rank_of e) (rank_of f) behind neither, later.0)) in
+    let ahead_of_it = true_from_ne_false (rank_before s (rank_of f) (rank_of e)) (λ neither. omega (arith, same_time s (rank_of e) (rank_of f) behind neither, later.0)) in
     (all_inserted_into (ahead rank_before (λ _. rank_of) s) (λ g. rank_before s (rank_of f) (rank_of g) ≡ true) e fs ahead_of_it r.0, in_rank_inserted s e fs later.1 r.1))

@@ -1,6 +1,7 @@
 -- What is left of entries, and how many lines name one. Assumes nothing.
-use Rattle.std.proofs.Common.{◌≡◌, ℕ, ◌+◌, ◌-◌, ◌≤◌, Bool, true, false, cond, not, ◌&&◌, eqb, ltb, List, [], ◌∷◌, ◌++◌, map, length, filter, Option, refl, ap, ◌∙◌, arith}
-use Rattle.std.proofs.lemmas.Bool.{false≢true, cond_both, ltb-true}
+use Rattle.std.proofs.Common.{◌≡◌, ℕ, ◌+◌, ◌≤◌, Bool, true, not, ◌&&◌, eqb, List, [], ◌∷◌, ◌++◌, map, length, filter, Option, refl, ap, ◌∙◌, arith}
+use Rattle.std.proofs.lemmas.Bool.Decides.{nat_tests}
+use Rattle.std.proofs.lemmas.Bool.{cond_both}
 use Rattle.sharing.specs.Rules.{by_time}
 use Rattle.sharing.specs.Sharing.{Sharing}
 use Rattle.sharing.specs.Totals.{one_if, count}
@@ -13,54 +14,14 @@ use Rattle.rules.specs.declared.terms.Entry.{Entry}
 use Rattle.rules.specs.declared.terms.Routed.{Routed}
 use Rattle.rules.specs.Checks.{is_barred}
 use Rattle.rules.specs.Laws.{names, LeftOf, RunsAreWhole}
-use Rattle.rules.specs.Laws.LeftOf.{none, gone, same, fewer}
-use Rattle.rules.specs.Level.{claim_of, first_or_0, but_first, spread, resized, left_after, fills, Deal, step, in_class, in_group, acts, for_group, makers, barred_line, unbarred, level}
-use Rattle.rules.specs.Ranks.{is_customer}
+use Rattle.rules.specs.Level.{claim_of, first_or_0, but_first, spread, resized, fills, Deal, step, in_class, in_group, for_group, makers, barred_line, unbarred, level}
 use Rattle.rules.specs.Walk.{into_runs, runs, flat}
-use Rattle.rules.proofs.OnePrice.{group_class, group_steady}
-
-pub left_refl : (es : List Entry) → LeftOf es es
-left_refl [] = none
-left_refl (e ∷ es) = same (left_refl es)
-
-pub left_trans : {es fs gs : List Entry} → LeftOf es fs → LeftOf fs gs → LeftOf es gs
-left_trans none h = h
-left_trans (gone g) h = gone (left_trans g h)
-left_trans (same g) (gone h) = gone (left_trans g h)
-left_trans (same g) (same h) = same (left_trans g h)
-left_trans (same g) (fewer n one le h) = fewer n one le (left_trans g h)
-left_trans (fewer n one le g) (gone h) = gone (left_trans g h)
-left_trans (fewer n one le g) (same h) = fewer n one le (left_trans g h)
-left_trans (fewer n one le g) (fewer m one' le' h) = fewer m one' (omega arith) (left_trans g h)
-
-pub left_append : {es fs gs hs : List Entry} → LeftOf es fs → LeftOf gs hs → LeftOf (es ++ gs) (fs ++ hs)
-left_append none h = h
-left_append (gone g) h = gone (left_append g h)
-left_append (same g) h = same (left_append g h)
-left_append (fewer n one le g) h = fewer n one le (left_append g h)
-
-pub left_kept : (p : Entry → Bool) (es : List Entry) → LeftOf es (filter p es)
-left_kept p [] = none
-left_kept p (e ∷ es) = cond_both (p e) (e ∷ filter p es) (filter p es) (LeftOf (e ∷ es)) (λ _. same (left_kept p es)) (λ _. gone (left_kept p es))
-
-pub left_given : (ns : List ℕ) (es : List Entry) → LeftOf es (left_after ns es)
-left_given [] es = left_refl es
-left_given (n ∷ ns) [] = none
-left_given (n ∷ ns) (e ∷ es) =
-    cond_both (ltb n e.size) (resized (e.size - n) e ∷ left_after ns es) (left_after ns es) (LeftOf (e ∷ es))
-    (λ lt. let h = ltb-true n e.size lt in fewer (e.size - n) (omega arith) (omega arith) (left_given ns es))
-    (λ _. gone (left_given ns es))
+pub use Rattle.rules.proofs.LeftOver.{left_refl, left_trans, left_append, left_kept, left_given, count_left}
+use Rattle.rules.proofs.OnePrice.{group_class, group_steady, makers_by}
 
 pub step_leaves : (k : Step) (test : Entry → Bool) (rule : Sharing) (amount : ℕ) (d : Deal) → LeftOf d.run (step k test rule amount d).run
 unfolding step
 step_leaves k test rule amount d = left_given _ d.run
-
--- a test that does not look at sizes passes no more of what is left
-pub count_left : (q : Entry → Bool) → ((n : ℕ) (e : Entry) → q (resized n e) ≡ q e) → {es fs : List Entry} → LeftOf es fs → count q fs ≤ count q es
-count_left q steady none = omega arith
-count_left q steady (gone g) = omega (arith, count_left q steady g)
-count_left q steady (same g) = omega (arith, count_left q steady g)
-count_left q steady (fewer {e} n one le g) = omega (arith, count_left q steady g, ap one_if (steady n e))
 
 -- a test of lines and one of entries that agree on a fill and on a cancel of a barred entry, whatever is left of it
 pub record Agree (named : Line → Bool) (mine : Entry → Bool) : Type 0 where
@@ -72,11 +33,7 @@ pub record Agree (named : Line → Bool) (mine : Entry → Bool) : Type 0 where
 module _ (named : Line → Bool) (mine : Entry → Bool) (agree : Agree named mine) where
   fills_once : (k : Step) (test : Entry → Bool) (ns : List ℕ) (es : List Entry) → count named (fills k (spread test ns es) es) ≤ count (λ e. test e && mine e) es
   fills_once k test ns [] = omega arith
-  fills_once k test ns (e ∷ es) =
-      elim (test e) as (λ b. count named (fills k (cond b (first_or_0 ns ∷ spread test (but_first ns) es) (0 ∷ spread test ns es)) (e ∷ es)) ≤ one_if (b && mine e) + count (λ f. test f && mine f) es) [
-        | true ↦ cond_both (ltb 0 (first_or_0 ns)) (Fill e.id e.firm (first_or_0 ns) e.price k ∷ fills k (spread test (but_first ns) es) es) (fills k (spread test (but_first ns) es) es) (λ l. count named l ≤ one_if (mine e) + count (λ f. test f && mine f) es) (λ _. omega (arith, fills_once k test (but_first ns) es, ap one_if (agree.fill e (first_or_0 ns) k))) (λ _. omega (arith, fills_once k test (but_first ns) es))
-        | false ↦ omega (arith, fills_once k test ns es)
-      ]
+  fills_once k test ns (e ∷ es) = grind (arith, nat_tests, agree.fill e (first_or_0 ns) k, fills_once k test (but_first ns) es, fills_once k test ns es)
 
   step_picked : (k : Step) (test : Entry → Bool) (rule : Sharing) (amount : ℕ) (d : Deal) → count named (step k test rule amount d).lines ≤ count named d.lines + count (λ e. test e && mine e) d.run
   unfolding step
@@ -100,32 +57,15 @@ pub runs_are_whole : RunsAreWhole
 runs_are_whole [] = refl
 runs_are_whole (e ∷ es) = into_whole e (runs es) ∙ ap (λ l. e ∷ l) (runs_are_whole es)
 
-split_two : (c g b : Bool) → (g ≡ true → c ≡ true) → one_if (g && b) + one_if ((c && not g) && b) ≤ one_if (c && b)
-split_two true true true only = omega arith
-split_two true true false only = omega arith
-split_two true false true only = omega arith
-split_two true false false only = omega arith
-split_two false true b only = absurd (false≢true (only refl))
-split_two false false b only = omega arith
-
 count_two : (c g q : Entry → Bool) → ((e : Entry) → g e ≡ true → c e ≡ true) → (es : List Entry) → count (λ e. g e && q e) es + count (λ e. (c e && not (g e)) && q e) es ≤ count (λ e. c e && q e) es
 count_two c g q only [] = omega arith
-count_two c g q only (e ∷ es) = omega (arith, split_two (c e) (g e) (q e) (only e), count_two c g q only es)
+count_two c g q only (e ∷ es) = grind (arith, nat_tests, only e, count_two c g q only es)
 
 pub makers_leaves : (rule : Sharing) (at_best : Bool) (directed : Option ℕ) (d : Deal) → LeftOf d.run (makers rule at_best directed d).run
-unfolding makers
 makers_leaves rule at_best directed d =
-    let group = in_group directed d.run in
-    let fourth = step GuaranteedQuotes group rule (for_group directed d) d in
-    cond_both (acts at_best directed d) (step OtherInterest (λ e. in_class 4 e && not (group e)) rule fourth.balance fourth) (step OtherInterest (in_class 4) rule d.balance d) (λ e. LeftOf d.run e.run)
-    (λ _. left_trans (step_leaves GuaranteedQuotes group rule (for_group directed d) d) (step_leaves OtherInterest (λ e. in_class 4 e && not (group e)) rule fourth.balance fourth))
+    makers_by (λ e. LeftOf d.run e.run) rule at_best directed d
+    (λ _. left_trans (step_leaves GuaranteedQuotes (in_group directed d.run) rule (for_group directed d) d) (step_leaves OtherInterest _ rule _ _))
     (λ _. step_leaves OtherInterest (in_class 4) rule d.balance d)
-
-one_of_four : (market customer b : Bool) → let k : ℕ = cond market (cond customer 1 2) (cond customer 3 4) in ((one_if (eqb k 1 && b) + one_if (eqb k 2 && b)) + one_if (eqb k 3 && b)) + one_if (eqb k 4 && b) ≡ one_if b
-one_of_four true true b = omega arith
-one_of_four true false b = omega arith
-one_of_four false true b = omega arith
-one_of_four false false b = omega arith
 
 -- the entries of a class among those that a test picks
 abbrev of_class : (Entry → Bool) → ℕ → Entry → Bool
@@ -133,16 +73,15 @@ of_class mine k e = in_class k e && mine e
 
 count_classes : (mine : Entry → Bool) (es : List Entry) → ((count (of_class mine 1) es + count (of_class mine 2) es) + count (of_class mine 3) es) + count (of_class mine 4) es ≡ count mine es
 count_classes mine [] = refl
-count_classes mine (e ∷ es) = omega (arith, one_of_four e.market (is_customer e.kind) (mine e), count_classes mine es)
+count_classes mine (e ∷ es) = grind (arith, nat_tests, count_classes mine es)
 
 module _ (named : Line → Bool) (mine : Entry → Bool) (agree : Agree named mine) where
   makers_picked : (rule : Sharing) (at_best : Bool) (directed : Option ℕ) (d : Deal) → count named (makers rule at_best directed d).lines ≤ count named d.lines + count (of_class mine 4) d.run
-  unfolding makers
   makers_picked rule at_best directed d =
       let group = in_group directed d.run in
       let others : Entry → Bool = λ e. in_class 4 e && not (group e) in
       let fourth = step GuaranteedQuotes group rule (for_group directed d) d in
-      cond_both (acts at_best directed d) (step OtherInterest others rule fourth.balance fourth) (step OtherInterest (in_class 4) rule d.balance d) (λ e. count named e.lines ≤ count named d.lines + count (of_class mine 4) d.run)
+      makers_by (λ e. count named e.lines ≤ count named d.lines + count (of_class mine 4) d.run) rule at_best directed d
       (λ _.
       let fewer_left = count_left (λ e. others e && mine e) (λ n e. λ t. (in_class 4 e && not (group_steady directed d.run n e t)) && agree.steady n e t) (step_leaves GuaranteedQuotes group rule (for_group directed d) d) in
       omega (arith, step_picked named mine agree OtherInterest others rule fourth.balance fourth, step_picked named mine agree GuaranteedQuotes group rule (for_group directed d) d, fewer_left, count_two (in_class 4) group mine (group_class directed d.run) d.run))
@@ -150,13 +89,7 @@ module _ (named : Line → Bool) (mine : Entry → Bool) (agree : Agree named mi
 
   count_barred : (barred : Entry → Bool) (es : List Entry) → count named (map barred_line (filter barred es)) + count mine (filter (λ e. not (barred e)) es) ≡ count mine es
   count_barred barred [] = refl
-  count_barred barred (e ∷ es) =
-      let more = count_barred barred es in
-      let same = ap one_if (agree.barred e) in
-      elim (barred e) as (λ b. count named (map barred_line (cond b (e ∷ filter barred es) (filter barred es))) + count mine (cond (not b) (e ∷ filter (λ f. not (barred f)) es) (filter (λ f. not (barred f)) es)) ≡ one_if (mine e) + count mine es) [
-        | true ↦ omega arith
-        | false ↦ omega arith
-      ]
+  count_barred barred (e ∷ es) = grind (arith, nat_tests, agree.barred e, count_barred barred es)
 
 pub makers_once : (i : ℕ) (rule : Sharing) (at_best : Bool) (directed : Option ℕ) (d : Deal) → count (names i) (makers rule at_best directed d).lines ≤ count (names i) d.lines + count (of_class (λ e. eqb e.id i) 4) d.run
 makers_once i = makers_picked (names i) (λ e. eqb e.id i) (by_id i)

@@ -5,6 +5,7 @@ pub mod Collars
 pub mod Held
 pub mod InRank
 pub mod Leaves
+pub mod LeftOver
 pub mod Moves
 pub mod OnePrice
 pub mod Runs

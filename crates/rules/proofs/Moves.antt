@@ -1,8 +1,8 @@
 -- What can happen to a sound book leaves it sound. Assumes nothing.
-use Rattle.std.proofs.Common.{◌≡◌, ℕ, ◌+◌, ◌<◌, ◌≤◌, Bool, true, eqb, List, [], ◌∷◌, ◌++◌, length, filter, sym, refl, ap, ◌∙◌, ⊎_elim, arith, length-append}
+use Rattle.std.proofs.Common.{◌≡◌, ℕ, ◌+◌, ◌<◌, ◌≤◌, Bool, true, eqb, List, [], ◌∷◌, ◌++◌, length, filter, sym, refl, ap, ◌∙◌, arith, length-append}
 use Rattle.std.specs.List.{AllByRecursion}
 use Rattle.std.proofs.ByRecursion.{All-weaker, All-append, all_kept_by}
-use Rattle.std.proofs.lemmas.Bool.{cases_Bool, cond_both, eqb-true, ne_eqb}
+use Rattle.std.proofs.lemmas.Bool.Decides.{nat_tests}
 use Rattle.ranked.specs.Ranked.{ahead}
 use Rattle.ranked.proofs.Orderly.{all_inserted_into, length_inserted_into}
 use Rattle.sharing.specs.Totals.{one_if, count}
@@ -17,6 +17,7 @@ use Rattle.rules.specs.Model.{Model, Counters, entries, places, with_entries, wi
 use Rattle.rules.specs.Prices.{is_price}
 use Rattle.rules.specs.Ranks.{rank_of, rank_before}
 use Rattle.rules.specs.Sound.{GoodEntry, GoodRow, GoodSide, standing_with, Sound}
+use Rattle.rules.proofs.Held.{length_kept}
 use Rattle.rules.proofs.InRank.{all_left_of, in_rank_left, length_left_of, in_rank_inserted}
 use Rattle.rules.proofs.Leaves.{count_left}
 
@@ -72,16 +73,12 @@ recounted n m sound ids times bound = record {
 
 -- an id that stands nowhere may stand once
 once_more : (j i n : ℕ) → (j ≡ i → n ≡ 0) → n ≤ 1 → one_if (eqb j i) + n ≤ 1
-once_more j i n fresh most =
-    ⊎_elim
-    (λ here. let one = ap one_if here in omega (arith, fresh (eqb-true j i here)))
-    (λ away. let none = ap one_if away in omega arith)
-    (cases_Bool (eqb j i))
+once_more j i n fresh most = grind (arith, nat_tests, fresh)
 
 -- an entry with the newest time takes its place on a side
-inserted_good : (tick most : ℕ) (n : Counters) (s : Side) (e : Entry) (es : List Entry) → GoodSide tick n most s es → 1 ≤ e.size → e.size ≤ 99999 → is_price tick e.price ≡ true → e.id ≤ n.last_id → e.time ≡ n.last_time + 1 → length es < most → GoodSide tick (record { last_id = n.last_id; last_time = n.last_time + 1 }) most s (ranked_in s e es)
+inserted_good : (tick most : ℕ) (n : Counters) (s : Side) (e : Entry) (es : List Entry) → GoodSide tick n most s es → 1 ≤ e.size → e.size ≤ 99999 → is_price tick e.price ≡ true → e.id ≤ n.last_id → e.time ≡ n.last_time + 1 → length es < most → GoodSide tick (record n { last_time = n.last_time + 1 }) most s (ranked_in s e es)
 inserted_good tick most n s e es g some size price id time room =
-    let next : Counters = record { last_id = n.last_id; last_time = n.last_time + 1 } in
+    let next = record n { last_time = n.last_time + 1 } in
     let by = ahead rank_before (λ _. rank_of) s in
     record {
       ranked = in_rank_inserted s e es (All-weaker (GoodEntry tick n) (λ f. f.time < e.time) (λ f h. omega (arith, h.time)) es g.good) g.ranked;
@@ -99,12 +96,12 @@ inserted_unique s e m sound fresh i =
 -- an entry with a new working time comes to rest
 pub rested : (s : Side) (e : Entry) (m : Model) → Sound m → standing_with e.id m ≡ 0 → 1 ≤ e.size → e.size ≤ 99999 → is_price m.opening.tick e.price ≡ true → e.id ≤ m.counters.last_id → e.time ≡ m.counters.last_time + 1 → length (entries s m) < places s m → m.counters.last_time + 1 + length m.out ≤ 4000000017 → Sound (with_last_time (m.counters.last_time + 1) (with_entries s (ranked_in s e (entries s m)) m))
 rested Buy e m sound fresh some size price id time room bound =
-    let next : Counters = record { last_id = m.counters.last_id; last_time = m.counters.last_time + 1 } in
+    let next = record m.counters { last_time = m.counters.last_time + 1 } in
     put Buy (ranked_in Buy e m.bids) (with_counters next m) (recounted next m sound (omega arith) (omega arith) bound)
     (inserted_good m.opening.tick m.opening.bid_places m.counters Buy e m.bids sound.bids some size price id time room)
     (inserted_unique Buy e m sound fresh)
 rested Sell e m sound fresh some size price id time room bound =
-    let next : Counters = record { last_id = m.counters.last_id; last_time = m.counters.last_time + 1 } in
+    let next = record m.counters { last_time = m.counters.last_time + 1 } in
     put Sell (ranked_in Sell e m.offers) (with_counters next m) (recounted next m sound (omega arith) (omega arith) bound)
     (inserted_good m.opening.tick m.opening.offer_places m.counters Sell e m.offers sound.offers some size price id time room)
     (inserted_unique Sell e m sound fresh)
@@ -125,6 +122,11 @@ sent_out r m sound fresh good room bound = record {
   bounded = omega (arith, length-append m.out (r ∷ []));
 }
 
+-- a filter keeps no more of what a test counts
+count_kept : {X : Type 0} (q p : X → Bool) (xs : List X) → count q (filter p xs) ≤ count q xs
+count_kept q p [] = omega arith
+count_kept q p (x ∷ xs) = grind (arith, nat_tests, count_kept q p xs)
+
 -- rows are given back
 pub given_back : (p : Routed → Bool) (m : Model) → Sound m → Sound (with_out (filter p m.out) m)
 given_back p m sound = record {
@@ -136,27 +138,15 @@ given_back p m sound = record {
   away_bid = sound.away_bid;
   away_offer = sound.away_offer;
   out = all_kept_by p (GoodRow m.opening.tick m.counters) m.out sound.out;
-  few_out = omega (arith, rows_kept p m.out, sound.few_out);
-  unique = λ i. omega (arith, rows_counted p i m.out, sound.unique i);
-  bounded = omega (arith, rows_kept p m.out, sound.bounded);
+  few_out = omega (arith, length_kept p m.out, sound.few_out);
+  unique = λ i. omega (arith, count_kept (λ r. eqb r.id i) p m.out, sound.unique i);
+  bounded = omega (arith, length_kept p m.out, sound.bounded);
 }
-  where
-    rows_kept : (p : Routed → Bool) (rs : List Routed) → length (filter p rs) ≤ length rs
-    rows_kept p [] = omega arith
-    rows_kept p (r ∷ rs) = let more = rows_kept p rs in cond_both (p r) (r ∷ filter p rs) (filter p rs) (λ l. length l ≤ length (r ∷ rs)) (λ _. omega arith) (λ _. omega arith)
-
-    rows_counted : (p : Routed → Bool) (i : ℕ) (rs : List Routed) → count (λ r. eqb r.id i) (filter p rs) ≤ count (λ r. eqb r.id i) rs
-    rows_counted p i [] = omega arith
-    rows_counted p i (r ∷ rs) = let more = rows_counted p i rs in cond_both (p r) (r ∷ filter p rs) (filter p rs) (λ l. count (λ x. eqb x.id i) l ≤ count (λ x. eqb x.id i) (r ∷ rs)) (λ _. omega arith) (λ _. omega arith)
 
 -- an id above all that were given out stands nowhere
-entries_below : (i n : ℕ) → n < i → (es : List Entry) → AllByRecursion (λ e. e.id ≤ n) es → count (has_id i) es ≡ 0
-entries_below i n lt [] known = refl
-entries_below i n lt (e ∷ es) known = let none = ap one_if (ne_eqb e.id i (λ same. omega (arith, known.0))) in omega (arith, entries_below i n lt es known.1)
-
-rows_below : (i n : ℕ) → n < i → (rs : List Routed) → AllByRecursion (λ r. r.id ≤ n) rs → count (λ r. eqb r.id i) rs ≡ 0
-rows_below i n lt [] known = refl
-rows_below i n lt (r ∷ rs) known = let none = ap one_if (ne_eqb r.id i (λ same. omega (arith, known.0))) in omega (arith, rows_below i n lt rs known.1)
+below : {X : Type 0} (id : X → ℕ) (i n : ℕ) → n < i → (xs : List X) → AllByRecursion (λ x. id x ≤ n) xs → count (λ x. eqb (id x) i) xs ≡ 0
+below id i n lt [] known = refl
+below id i n lt (x ∷ xs) known = grind (arith, nat_tests, known.0, below id i n lt xs known.1)
 
 pub stands_nowhere : (i : ℕ) (m : Model) → Sound m → m.counters.last_id < i → standing_with i m ≡ 0
 stands_nowhere i m sound lt =
@@ -164,7 +154,7 @@ stands_nowhere i m sound lt =
     let n = m.counters in
     omega (
       arith,
-      entries_below i n.last_id lt m.bids (All-weaker (GoodEntry tick n) (λ e. e.id ≤ n.last_id) (λ e h. h.id) m.bids sound.bids.good),
-      entries_below i n.last_id lt m.offers (All-weaker (GoodEntry tick n) (λ e. e.id ≤ n.last_id) (λ e h. h.id) m.offers sound.offers.good),
-      rows_below i n.last_id lt m.out (All-weaker (GoodRow tick n) (λ r. r.id ≤ n.last_id) (λ r h. h.id) m.out sound.out),
+      below (λ (e : Entry). e.id) i n.last_id lt m.bids (All-weaker (GoodEntry tick n) (λ e. e.id ≤ n.last_id) (λ e h. h.id) m.bids sound.bids.good),
+      below (λ (e : Entry). e.id) i n.last_id lt m.offers (All-weaker (GoodEntry tick n) (λ e. e.id ≤ n.last_id) (λ e h. h.id) m.offers sound.offers.good),
+      below (λ (r : Routed). r.id) i n.last_id lt m.out (All-weaker (GoodRow tick n) (λ r. r.id ≤ n.last_id) (λ r h. h.id) m.out sound.out),
     )

@@ -1,10 +1,11 @@
 -- One price under any lawful rule: the order or the price is exhausted. Assumes nothing.
-use Rattle.std.proofs.Common.{◌≡◌, ℕ, ◌+◌, ◌-◌, ◌*◌, ◌/◌, ◌<◌, ◌≤◌, min, Bool, true, false, cond, not, ◌&&◌, eqb, ltb, leb, List, [], ◌∷◌, map, Some, None, filter, Option, sym, refl, ap, ◌∙◌, subst, inl, inr, ⊎_elim, mul-le-mul_right, mul_comm, add-mul, mul-le-mul_left, mul-add, arith}
+use Rattle.std.proofs.Common.{◌≡◌, ℕ, ◌+◌, ◌-◌, ◌*◌, ◌/◌, ◌<◌, ◌≤◌, min, Bool, true, false, not, ◌&&◌, ltb, leb, List, [], ◌∷◌, map, Some, None, filter, Option, sym, refl, ap, ◌∙◌, subst, inl, inr, ⊎_elim, mul-le-mul_right, mul_comm, add-mul, mul-le-mul_left, mul-add, arith}
 use native.Mathlib.Nat.{div-le_of_le-mul}
 use Rattle.std.specs.List.{AllByRecursion}
 use Rattle.std.proofs.lemmas.Nat.{le-div}
 use Rattle.std.proofs.ByRecursion.{all_kept_by}
-use Rattle.std.proofs.lemmas.Bool.{false≢true, and_parts, eqb-true, ne_eqb, cond_both, leb-true, cases_Bool, cases_lt}
+use Rattle.std.proofs.lemmas.Bool.Decides.{nat_tests}
+use Rattle.std.proofs.lemmas.Bool.{and_parts, and_right, eqb-true, ne_eqb, cond_both, leb-true, cases_lt}
 use Rattle.sharing.specs.Rules.{by_time}
 use Rattle.sharing.specs.Sharing.{Sharing, Lawful}
 use Rattle.sharing.specs.Totals.{total, count}
@@ -16,7 +17,7 @@ use Rattle.rules.specs.Checks.{is_barred}
 use Rattle.rules.specs.Guarantee.{guaranteed, group_amount}
 use Rattle.rules.specs.Laws.{traded_in, taken_from, holding, Tradable, OnePrice}
 use Rattle.rules.specs.Level.{size_of, resized, Deal, step, in_class, quote_of, specialist, in_group, acts, for_group, makers, barred_line, unbarred, step_all, level}
-use Rattle.rules.specs.Ranks.{class_of, is_customer}
+use Rattle.rules.specs.Ranks.{class_of}
 use Rattle.rules.proofs.Held.{held, held_kept, by_time_kept, length_kept}
 use Rattle.rules.proofs.Steps.{balance_after, held_apart, held_within, traded_after, accounts_after, tradable_after}
 
@@ -79,24 +80,12 @@ group_and_others r t s some shown le =
 
 pub held_mono : (p q : Entry → Bool) → ((e : Entry) → p e ≡ true → q e ≡ true) → (es : List Entry) → held p es ≤ held q es
 held_mono p q wider [] = omega arith
-held_mono p q wider (e ∷ es) =
-    let more = held_mono p q wider es in
-    ⊎_elim
-    (λ here. omega (arith, ap (λ b. cond b e.size 0) here, ap (λ b. cond b e.size 0) (wider e here)))
-    (λ not_here. omega (arith, ap (λ b. cond b e.size 0) not_here))
-    (cases_Bool (p e))
+held_mono p q wider (e ∷ es) = grind (arith, nat_tests, wider e, held_mono p q wider es)
 
 -- what a test splits adds up
 pub held_split : (q p : Entry → Bool) → ((e : Entry) → p e ≡ true → q e ≡ true) → (es : List Entry) → held p es + held (λ e. q e && not (p e)) es ≡ held q es
 held_split q p inside [] = refl
-held_split q p inside (e ∷ es) =
-    let more = held_split q p inside es in
-    let here : cond (p e) e.size 0 + cond (q e && not (p e)) e.size 0 ≡ cond (q e) e.size 0 =
-    elim (q e) as (λ b. (p e ≡ true → b ≡ true) → cond (p e) e.size 0 + cond (b && not (p e)) e.size 0 ≡ cond b e.size 0) [
-      | true ↦ λ _. elim (p e) as (λ c. cond c e.size 0 + cond (not c) e.size 0 ≡ e.size) [ true ↦ omega arith | false ↦ omega arith ]
-      | false ↦ λ only. elim (p e) as (λ c. (c ≡ true → false ≡ true) → cond c e.size 0 + 0 ≡ 0) [ true ↦ λ o. absurd (false≢true (o refl)) | false ↦ λ _. refl ] only
-    ] (inside e) in
-    omega arith
+held_split q p inside (e ∷ es) = grind (arith, nat_tests, inside e, held_split q p inside es)
 
 -- the group is part of the fourth class, whatever its entries hold
 module _ (directed : Option ℕ) (es : List Entry) where
@@ -120,6 +109,14 @@ module _ (directed : Option ℕ) (es : List Entry) where
       by None = λ n e. refl
       by (Some f) = cond_both (ltb 0 (count (quote_of f) es)) (quote_of f) specialist (λ g. (n : ℕ) (e : Entry) → g (resized n e) ≡ g e) (λ _ n e. refl) (λ _ n e. refl)
 
+-- steps 4 and 5: the group and then the others where the guarantee acts, else the whole class at once
+pub makers_by : (P : Deal → Type 0) (rule : Sharing) (at_best : Bool) (directed : Option ℕ) (d : Deal)
+    → (acts at_best directed d ≡ true → let fourth = step GuaranteedQuotes (in_group directed d.run) rule (for_group directed d) d in P (step OtherInterest (λ e. in_class 4 e && not (in_group directed d.run e)) rule fourth.balance fourth))
+    → (acts at_best directed d ≡ false → P (step OtherInterest (in_class 4) rule d.balance d))
+    → P (makers rule at_best directed d)
+unfolding makers
+makers_by P rule at_best directed d = cond_both (acts at_best directed d) _ _ P
+
 module _ (rule : Sharing) (lawful : Lawful rule) (at_best : Bool) (directed : Option ℕ) (d : Deal) (ok : Tradable d.balance d.run) where
   abbrev group : Entry → Bool
   group = in_group directed d.run
@@ -140,11 +137,7 @@ module _ (rule : Sharing) (lawful : Lawful rule) (at_best : Bool) (directed : Op
   others_steady n e = ap (λ b. in_class 4 e && not b) (group_steady directed d.run n e)
 
   others_apart : (e : Entry) → group e ≡ true → others e ≡ false
-  others_apart e h = ap (λ b. in_class 4 e && not b) h ∙ and_false (in_class 4 e)
-    where
-      and_false : (b : Bool) → (b && false) ≡ false
-      and_false true = refl
-      and_false false = refl
+  others_apart e h = ap (λ b. in_class 4 e && not b) h ∙ and_right (in_class 4 e) false refl
 
   module _ (some : 1 ≤ d.balance) (shown : 1 ≤ total size_of (filter group d.run)) where
     shown_is : total size_of (filter group d.run) ≡ held group d.run
@@ -202,9 +195,8 @@ module _ (rule : Sharing) (lawful : Lawful rule) (at_best : Bool) (directed : Op
 
   -- steps 4 and 5 offer the balance to the fourth class
   makers_offer : Offers 4 d (makers rule at_best directed d)
-  unfolding makers
   makers_offer =
-      cond_both (acts at_best directed d) (step OtherInterest others rule (step GuaranteedQuotes group rule amount d).balance (step GuaranteedQuotes group rule amount d)) (step OtherInterest (in_class 4) rule d.balance d) (Offers 4 d)
+      makers_by (Offers 4 d) rule at_best directed d
       (λ yes.
       let meets = (and_parts at_best _ yes).1 in
       let both = and_parts (leb 1 d.balance) _ meets in
@@ -212,15 +204,9 @@ module _ (rule : Sharing) (lawful : Lawful rule) (at_best : Bool) (directed : Op
       (λ _. whole_class OtherInterest 4 rule lawful d ok)
 
 -- every entry is of one of four classes
-one_class : (market customer : Bool) (n : ℕ) → let k : ℕ = cond market (cond customer 1 2) (cond customer 3 4) in n ≡ ((cond (eqb k 1) n 0 + cond (eqb k 2) n 0) + cond (eqb k 3) n 0) + cond (eqb k 4) n 0
-one_class true true n = omega arith
-one_class true false n = omega arith
-one_class false true n = omega arith
-one_class false false n = omega arith
-
 by_class : (es : List Entry) → total size_of es ≡ ((held (in_class 1) es + held (in_class 2) es) + held (in_class 3) es) + held (in_class 4) es
 by_class [] = refl
-by_class (e ∷ es) = omega (arith, one_class e.market (is_customer e.kind) e.size, by_class es)
+by_class (e ∷ es) = grind (arith, nat_tests, by_class es)
 
 nothing_left : (es : List Entry) → AllByRecursion (λ e. (1 ≤ e.size) × (e.size ≤ 99999)) es → total size_of es ≡ 0 → es ≡ []
 nothing_left [] sized none = refl
@@ -229,19 +215,6 @@ nothing_left (e ∷ es) sized none = absurd (omega (arith, sized.0.0))
 barred_lines : (es : List Entry) → total traded_in (map barred_line es) ≡ 0
 barred_lines [] = refl
 barred_lines (e ∷ es) = omega (arith, barred_lines es)
-
--- what two offers in turn pay and give
-more_pays : (b h k : ℕ) → (b - min b h) - min (b - min b h) k ≡ b - min b (h + k)
-more_pays b h k = omega arith
-
-more_gives : (b h k : ℕ) → min b h + min (b - min b h) k ≡ min b (h + k)
-more_gives b h k = omega arith
-
-five_lines : (l0 l1 l2 l3 l4 a b c d : ℕ) → l1 ≡ l0 + a → l2 ≡ l1 + b → l3 ≡ l2 + c → l4 ≡ l3 + d → l4 ≡ l0 + (((a + b) + c) + d)
-five_lines l0 l1 l2 l3 l4 a b c d p q r s = omega arith
-
-four_left : (l1 l2 l3 l4 a b c d h1 h2 h3 h4 : ℕ) → l1 + a ≡ h1 → l2 + b ≡ h2 → l3 + c ≡ h3 → l4 + d ≡ h4 → (((l1 + l2) + l3) + l4) + (((a + b) + c) + d) ≡ ((h1 + h2) + h3) + h4
-four_left l1 l2 l3 l4 a b c d h1 h2 h3 h4 p q r s = omega arith
 
 -- four offers in turn: what was given is the lesser of the balance and all that stood there
 module _ (d0 d1 d2 d3 d4 : Deal) (s1 : Offers 1 d0 d1) (s2 : Offers 2 d1 d2) (s3 : Offers 3 d2 d3) (s4 : Offers 4 d3 d4) where
@@ -276,53 +249,22 @@ module _ (d0 d1 d2 d3 d4 : Deal) (s1 : Offers 1 d0 d1) (s2 : Offers 2 d1 d2) (s3
   abbrev g4 : ℕ
   g4 = min d3.balance (held (in_class 4) d3.run)
 
-  -- how many contracts the classes up to each hold
-  abbrev h2 : ℕ
-  h2 = held (in_class 1) d0.run + held (in_class 2) d0.run
-
-  abbrev h3 : ℕ
-  h3 = h2 + held (in_class 3) d0.run
-
-  paid_2 : d2.balance ≡ d0.balance - min d0.balance h2
-  paid_2 = s2.pays ∙ (λ t. s1.pays t - min (s1.pays t) (second t)) ∙ more_pays d0.balance (held (in_class 1) d0.run) (held (in_class 2) d0.run)
-
-  paid_3 : d3.balance ≡ d0.balance - min d0.balance h3
-  paid_3 = s3.pays ∙ (λ t. paid_2 t - min (paid_2 t) (third t)) ∙ more_pays d0.balance h2 (held (in_class 3) d0.run)
-
   paid : d4.balance ≡ d0.balance - min d0.balance (total size_of d0.run)
-  paid = s4.pays ∙ (λ t. paid_3 t - min (paid_3 t) (last t)) ∙ more_pays d0.balance h3 (held (in_class 4) d0.run) ∙ ap (λ n. d0.balance - min d0.balance n) (sym (by_class d0.run))
-
-  gave_2 : g1 + g2 ≡ min d0.balance h2
-  gave_2 = ap (λ n. g1 + n) (λ t. min (s1.pays t) (second t)) ∙ more_gives d0.balance (held (in_class 1) d0.run) (held (in_class 2) d0.run)
-
-  gave_3 : (g1 + g2) + g3 ≡ min d0.balance h3
-  gave_3 = (λ t. gave_2 t + min (paid_2 t) (third t)) ∙ more_gives d0.balance h2 (held (in_class 3) d0.run)
+  paid = omega (arith, s1.pays, s2.pays, s3.pays, s4.pays, second, third, last, by_class d0.run)
 
   gave_4 : ((g1 + g2) + g3) + g4 ≡ min d0.balance (total size_of d0.run)
-  gave_4 = (λ t. gave_3 t + min (paid_3 t) (last t)) ∙ more_gives d0.balance h3 (held (in_class 4) d0.run) ∙ ap (min d0.balance) (sym (by_class d0.run))
+  gave_4 = omega (arith, s1.pays, s2.pays, s3.pays, s4.pays, second, third, last, by_class d0.run)
 
   given : total traded_in d4.lines ≡ total traded_in d0.lines + min d0.balance (total size_of d0.run)
-  given =
-      five_lines (total traded_in d0.lines) (total traded_in d1.lines) (total traded_in d2.lines) (total traded_in d3.lines) (total traded_in d4.lines) g1 g2 g3 g4 s1.lines s2.lines s3.lines s4.lines
-      ∙ ap (λ n. total traded_in d0.lines + n) gave_4
+  given = omega (arith, s1.lines, s2.lines, s3.lines, s4.lines, gave_4)
 
   left : total size_of d4.run + min d0.balance (total size_of d0.run) ≡ total size_of d0.run
-  left =
-      (λ t. by_class d4.run t + sym gave_4 t)
-      ∙ four_left (held (in_class 1) d4.run) (held (in_class 2) d4.run) (held (in_class 3) d4.run) (held (in_class 4) d4.run) g1 g2 g3 g4
-      (held (in_class 1) d0.run) (held (in_class 2) d0.run) (held (in_class 3) d0.run) (held (in_class 4) d0.run)
-      (ap (λ n. n + g1) left_1 ∙ s1.takes) (ap (λ n. n + g2) left_2 ∙ s2.takes ∙ second) (ap (λ n. n + g3) left_3 ∙ s3.takes ∙ third) (s4.takes ∙ last)
-      ∙ sym (by_class d0.run)
+  left = omega (arith, by_class d4.run, by_class d0.run, gave_4, left_1, left_2, left_3, s1.takes, s2.takes, s3.takes, s4.takes, second, third, last)
 
 -- barred entries are cancelled whole
 barred_accounts : (barred : Entry → Bool) (i : ℕ) (es : List Entry) → holding i (filter (λ e. not (barred e)) es) + total (taken_from i) (map barred_line (filter barred es)) ≡ holding i es
 barred_accounts barred i [] = refl
-barred_accounts barred i (e ∷ es) =
-    let more = barred_accounts barred i es in
-    elim (barred e) as (λ b. holding i (cond (not b) (e ∷ filter (λ f. not (barred f)) es) (filter (λ f. not (barred f)) es)) + total (taken_from i) (map barred_line (cond b (e ∷ filter barred es) (filter barred es))) ≡ holding i (e ∷ es)) [
-      | true ↦ omega arith
-      | false ↦ omega arith
-    ]
+barred_accounts barred i (e ∷ es) = grind (arith, nat_tests, barred_accounts barred i es)
 
 pub one_price : OnePrice
 unfolding level unbarred

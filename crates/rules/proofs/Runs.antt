@@ -16,11 +16,8 @@ use Rattle.rules.proofs.Moves.{good_side}
 
 -- of two entries at one price and of one class the first in rank is the earlier
 pub earlier_of : (s : Side) (e f : Entry) → rank_before s (rank_of e) (rank_of f) ≡ true → e.price ≡ f.price → class_of e ≡ class_of f → e.time < f.time
-earlier_of s e f before price class = timed s e.price f.price (class_of e) (class_of f) e.time f.time before price class
-  where
-    timed : (s : Side) (p q k l t u : ℕ) → rank_before s (p, k, t) (q, l, u) ≡ true → p ≡ q → k ≡ l → t < u
-    timed Buy p q k l t u before price class = grind (arith, nat_tests)
-    timed Sell p q k l t u before price class = grind (arith, nat_tests)
+earlier_of Buy e f before price class = grind (arith, nat_tests)
+earlier_of Sell e f before price class = grind (arith, nat_tests)
 
 -- a run of one price, in rank, no longer than n
 record GoodRun (tick : ℕ) (c : Counters) (s : Side) (n : ℕ) (r : List Entry) : Type 0 where

@@ -101,7 +101,7 @@ without_entry i es = filter (λ e. not (e.id == i)) es
 
 -- the entry with a larger size has a new working time
 abbrev pub enlarged : ℕ → ℕ → Entry → Entry
-enlarged n time e = record { id = e.id; firm = e.firm; kind = e.kind; market = e.market; price = e.price; size = n; time = time; own_firm_mark = e.own_firm_mark }
+enlarged n time e = record e { size = n; time = time }
 
 -- a smaller or an equal size keeps the entry's time, and so its place
 abbrev pub reduced_in : ℕ → ℕ → List Entry → List Entry

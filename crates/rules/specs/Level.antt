@@ -40,7 +40,7 @@ spread test ns (e ∷ es) = cond (test e) (first_or_0 ns ∷ spread test (but_fi
 
 -- the entry with another size
 abbrev pub resized : ℕ → Entry → Entry
-resized n e = record { id = e.id; firm = e.firm; kind = e.kind; market = e.market; price = e.price; size = n; time = e.time; own_firm_mark = e.own_firm_mark }
+resized n e = record e { size = n }
 
 -- what is left of the entries after each gave so much; those with nothing left are gone
 abbrev pub left_after : List ℕ → List Entry → List Entry

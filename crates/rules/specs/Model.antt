@@ -44,29 +44,29 @@ places Sell m = m.opening.offer_places
 
 -- the same book with other entries on a side
 abbrev pub with_entries : Side → List Entry → Model → Model
-with_entries Buy es m = record { bids = es; offers = m.offers; out = m.out; away_bid = m.away_bid; away_offer = m.away_offer; counters = m.counters; opening = m.opening }
-with_entries Sell es m = record { bids = m.bids; offers = es; out = m.out; away_bid = m.away_bid; away_offer = m.away_offer; counters = m.counters; opening = m.opening }
+with_entries Buy es m = record m { bids = es }
+with_entries Sell es m = record m { offers = es }
 
 -- with another away price on a side
 abbrev pub with_away : Side → Option ℕ → Model → Model
-with_away Buy p m = record { bids = m.bids; offers = m.offers; out = m.out; away_bid = p; away_offer = m.away_offer; counters = m.counters; opening = m.opening }
-with_away Sell p m = record { bids = m.bids; offers = m.offers; out = m.out; away_bid = m.away_bid; away_offer = p; counters = m.counters; opening = m.opening }
+with_away Buy p m = record m { away_bid = p }
+with_away Sell p m = record m { away_offer = p }
 
 -- with other orders out
 abbrev pub with_out : List Routed → Model → Model
-with_out rs m = record { bids = m.bids; offers = m.offers; out = rs; away_bid = m.away_bid; away_offer = m.away_offer; counters = m.counters; opening = m.opening }
+with_out rs m = record m { out = rs }
 
 -- with other counters
 abbrev pub with_counters : Counters → Model → Model
-with_counters n m = record { bids = m.bids; offers = m.offers; out = m.out; away_bid = m.away_bid; away_offer = m.away_offer; counters = n; opening = m.opening }
+with_counters n m = record m { counters = n }
 
 -- this id is now the highest
 abbrev pub with_last_id : ℕ → Model → Model
-with_last_id i m = with_counters (record { last_id = i; last_time = m.counters.last_time }) m
+with_last_id i m = with_counters (record m.counters { last_id = i }) m
 
 -- this working time is now the last
 abbrev pub with_last_time : ℕ → Model → Model
-with_last_time t m = with_counters (record { last_id = m.counters.last_id; last_time = t }) m
+with_last_time t m = with_counters (record m.counters { last_time = t }) m
 
 -- the price of the first entry
 abbrev pub best : List Entry → Option ℕ

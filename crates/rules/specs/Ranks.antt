@@ -1,5 +1,7 @@
 -- The rank of entries on a side. Assumes nothing.
 use Rattle.std.specs.Prelude.{ℕ, Bool, true, false, cond, ◌&&◌, ◌||◌, ◌==◌, nat_lt}
+use Rattle.rules.specs.declared.ranks.Class.{Class}
+use Rattle.rules.specs.declared.ranks.Class.TheVariants.{CustomerMarketOrder, OtherMarketOrder, CustomerLimitOrder, OtherInterest}
 use Rattle.rules.specs.declared.terms.Entry.{Entry}
 use Rattle.rules.specs.declared.terms.Kind.{Kind}
 use Rattle.rules.specs.declared.terms.Kind.TheVariants.{Customer, Other, MakerQuote, SpecialistQuote}
@@ -11,6 +13,13 @@ is_customer Customer = true
 is_customer Other = false
 is_customer MakerQuote = false
 is_customer SpecialistQuote = false
+
+-- the number of a class, by which classes are ranked
+abbrev pub class_number : Class → ℕ
+class_number CustomerMarketOrder = 1
+class_number OtherMarketOrder = 2
+class_number CustomerLimitOrder = 3
+class_number OtherInterest = 4
 
 -- Market Orders before Limit Orders and quotes, and in each customers before others
 abbrev pub class_of : Entry → ℕ

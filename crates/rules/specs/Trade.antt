@@ -49,7 +49,7 @@ end_line o balance rests = Rest o.id o.firm balance o.cap
 
 -- the order with another size
 abbrev pub sized : ℕ → Routed → Routed
-sized n o = record { id = o.id; firm = o.firm; kind = o.kind; side = o.side; term = o.term; market = o.market; cap = o.cap; size = n; directed = o.directed; own_firm_mark = o.own_firm_mark }
+sized n o = record o { size = n }
 
 -- the entry that rests: at the cap, with a new working time
 abbrev pub resting_entry : Routed → ℕ → ℕ → Entry

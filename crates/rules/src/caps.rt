@@ -10,20 +10,14 @@ use crate::terms::{Order, Side};
 pub fn collar_distance(reference: u32) -> u32
     ensures { result ≡ collar_amount reference }
 {
-    if reference <= 200 {
-        20
-    } else if reference <= 500 {
-        30
-    } else if reference <= 1000 {
-        40
-    } else if reference <= 2000 {
-        70
-    } else if reference <= 5000 {
-        90
-    } else if reference <= 10000 {
-        140
-    } else {
-        190
+    match reference {
+        ..=200 => 20,
+        ..=500 => 30,
+        ..=1000 => 40,
+        ..=2000 => 70,
+        ..=5000 => 90,
+        ..=10000 => 140,
+        _ => 190,
     }
 }
 
@@ -36,13 +30,11 @@ impl Side {
         let distance = collar_distance(reference);
         match self {
             Side::Buy => reference.saturating_add(distance).min(1_000_000),
-            Side::Sell => {
-                if distance <= reference && tick <= reference - distance {
-                    reference - distance
-                } else {
-                    limit.unwrap_or(tick)
-                }
-            }
+            Side::Sell => reference
+                .checked_sub(distance)
+                .filter(|&below| tick <= below)
+                .or(limit)
+                .unwrap_or(tick),
         }
     }
 
@@ -62,13 +54,13 @@ impl Order {
         if self.term.is_immediate() || self.kind.is_quote() {
             return self.price;
         }
-        match (reference, self.price) {
-            (None, limit) => limit,
-            (Some(r), None) => Some(self.side.collar(tick, None, r)),
-            (Some(r), Some(limit)) => Some(
-                self.side
-                    .tighter(limit, self.side.collar(tick, Some(limit), r)),
-            ),
-        }
+        let Some(reference) = reference else {
+            return self.price;
+        };
+        let collar = self.side.collar(tick, self.price, reference);
+        Some(
+            self.price
+                .map_or(collar, |limit| self.side.tighter(limit, collar)),
+        )
     }
 }

@@ -9,10 +9,7 @@ impl Kind {
     pub fn is_quote(self) -> bool
         ensures { result ≡ is_quote self }
     {
-        match self {
-            Kind::MakerQuote | Kind::SpecialistQuote => true,
-            Kind::Customer | Kind::Other => false,
-        }
+        matches!(self, Kind::MakerQuote | Kind::SpecialistQuote)
     }
 }
 
@@ -20,10 +17,7 @@ impl Term {
     pub fn is_immediate(self) -> bool
         ensures { result ≡ is_ioc self }
     {
-        match self {
-            Term::Day => false,
-            Term::ImmediateOrCancel => true,
-        }
+        matches!(self, Term::ImmediateOrCancel)
     }
 }
 

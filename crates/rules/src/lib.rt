@@ -20,5 +20,6 @@ pub use laws::{
 };
 pub use numbers::{Cause, Refusal};
 pub use prices::{valid_price, valid_size, valid_tick};
+pub use ranks::Class;
 pub use tape::{Line, Step};
 pub use terms::{Entry, Kind, Order, Routed, Side, Term};

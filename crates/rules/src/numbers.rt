@@ -6,78 +6,52 @@ ghost use Rattle.rules.specs.Numbers.{refusal_number, cause_number};
 #[derive(Clone, Copy, Debug, PartialEq, Eq)]
 pub enum Refusal {
     // the host
-    TapeTooShort,
-    ClaimSheetTooShort,
-    BadPlaces,
-    BadTickOrSeries,
+    TapeTooShort = 11,
+    ClaimSheetTooShort = 12,
+    BadPlaces = 13,
+    BadTickOrSeries = 14,
     // the firm
-    IdNotAboveAllBefore,
-    FirmZero,
-    BadPrice,
-    BadSize,
-    TermsClash,
-    NoReference,
-    NeitherRestingNorOut,
-    AnotherFirms,
-    OutOnRoute,
+    IdNotAboveAllBefore = 21,
+    FirmZero = 22,
+    BadPrice = 23,
+    BadSize = 24,
+    TermsClash = 25,
+    NoReference = 26,
+    NeitherRestingNorOut = 27,
+    AnotherFirms = 28,
+    OutOnRoute = 29,
     // the book
-    SideFull,
-    SixteenOut,
-    LastTimeReached,
+    SideFull = 31,
+    SixteenOut = 32,
+    LastTimeReached = 33,
     // the holder of a ticket
-    NotOutHere,
-    MoreThanRouted,
+    NotOutHere = 41,
+    MoreThanRouted = 42,
 }
 
 impl Refusal {
     pub fn number(self) -> u8
         ensures { result ≡ refusal_number self }
     {
-        match self {
-            Refusal::TapeTooShort => 11,
-            Refusal::ClaimSheetTooShort => 12,
-            Refusal::BadPlaces => 13,
-            Refusal::BadTickOrSeries => 14,
-            Refusal::IdNotAboveAllBefore => 21,
-            Refusal::FirmZero => 22,
-            Refusal::BadPrice => 23,
-            Refusal::BadSize => 24,
-            Refusal::TermsClash => 25,
-            Refusal::NoReference => 26,
-            Refusal::NeitherRestingNorOut => 27,
-            Refusal::AnotherFirms => 28,
-            Refusal::OutOnRoute => 29,
-            Refusal::SideFull => 31,
-            Refusal::SixteenOut => 32,
-            Refusal::LastTimeReached => 33,
-            Refusal::NotOutHere => 41,
-            Refusal::MoreThanRouted => 42,
-        }
+        self as u8
     }
 }
 
 // Why contracts were cancelled.
 #[derive(Clone, Copy, Debug, PartialEq, Eq)]
 pub enum Cause {
-    OwnFirm,
-    Immediate,
-    LeastSize,
-    AwayPrice,
-    NoPlaceOnReturn,
-    ByTheFirm,
+    OwnFirm = 1,
+    Immediate = 2,
+    LeastSize = 3,
+    AwayPrice = 4,
+    NoPlaceOnReturn = 5,
+    ByTheFirm = 6,
 }
 
 impl Cause {
     pub fn number(self) -> u8
         ensures { result ≡ cause_number self }
     {
-        match self {
-            Cause::OwnFirm => 1,
-            Cause::Immediate => 2,
-            Cause::LeastSize => 3,
-            Cause::AwayPrice => 4,
-            Cause::NoPlaceOnReturn => 5,
-            Cause::ByTheFirm => 6,
-        }
+        self as u8
     }
 }

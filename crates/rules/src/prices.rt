@@ -8,7 +8,7 @@ use crate::terms::Side;
 pub fn valid_tick(tick: u32) -> bool
     ensures { result ≡ is_tick tick }
 {
-    tick == 1 || tick == 5 || tick == 10
+    matches!(tick, 1 | 5 | 10)
 }
 
 // 1 to 1,000,000 cents and a multiple of the tick.
@@ -16,14 +16,14 @@ pub fn valid_price(tick: u32, price: u32) -> bool
     requires { 0 < tick }
     ensures { result ≡ is_price tick price }
 {
-    1 <= price && price <= 1_000_000 && price % tick == 0
+    (1..=1_000_000).contains(&price) && price % tick == 0
 }
 
 // 1 to 99,999 contracts.
 pub fn valid_size(size: u32) -> bool
     ensures { result ≡ is_size size }
 {
-    1 <= size && size <= 99_999
+    (1..=99_999).contains(&size)
 }
 
 impl Side {
@@ -32,9 +32,8 @@ impl Side {
         ensures { result ≡ national self book away }
     {
         match (book, away) {
-            (None, q) => q,
-            (Some(p), None) => Some(p),
-            (Some(p), Some(q)) => Some(if self.better(q, p) { q } else { p }),
+            (Some(p), Some(q)) if self.better(q, p) => away,
+            _ => book.or(away),
         }
     }
 
@@ -49,10 +48,7 @@ impl Side {
     pub fn within_reach(self, cap: u32, away: Option<u32>, price: u32) -> bool
         ensures { result ≡ in_reach self cap away price }
     {
-        let beaten = match away {
-            None => false,
-            Some(q) => self.other().better(q, price),
-        };
+        let beaten = away.is_some_and(|q| self.other().better(q, price));
         self.within_cap(cap, price) && !beaten
     }
 }

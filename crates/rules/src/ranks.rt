@@ -1,6 +1,6 @@
 // The rank of entries on a side: better price, Market Orders first, customers first, earlier time.
 ghost use Rattle.std.specs.Prelude.{◌≡◌, ℕ};
-ghost use Rattle.rules.specs.Ranks.{is_customer, class_of, rank_of, rank_before};
+ghost use Rattle.rules.specs.Ranks.{is_customer, class_number, class_of, rank_of, rank_before};
 ghost use Rattle.rules.specs.TotalRanks.{same_price, same_class, same_time};
 ghost use Rattle.std.proofs.Common.{rules};
 
@@ -11,23 +11,29 @@ impl Kind {
     pub fn is_customer(self) -> bool
         ensures { result ≡ is_customer self }
     {
-        match self {
-            Kind::Customer => true,
-            Kind::Other | Kind::MakerQuote | Kind::SpecialistQuote => false,
-        }
+        matches!(self, Kind::Customer)
     }
 }
 
+// Where an entry stands at its price, first to last: Market Orders before Limit Orders and quotes, and in each customers
+// before others.
+#[derive(Clone, Copy, Debug, PartialEq, Eq, PartialOrd, Ord)]
+pub enum Class {
+    CustomerMarketOrder,
+    OtherMarketOrder,
+    CustomerLimitOrder,
+    OtherInterest,
+}
+
 impl Entry {
-    // Where it stands at its price: 1 a customer's Market Order, 2 another's, 3 a customer's Limit Order, 4 the rest.
-    pub fn class(&self) -> u8
-        ensures { result ≡ class_of self.now }
+    pub fn class(&self) -> Class
+        ensures { class_number result ≡ class_of self.now }
     {
         match (self.market, self.kind.is_customer()) {
-            (true, true) => 1,
-            (true, false) => 2,
-            (false, true) => 3,
-            (false, false) => 4,
+            (true, true) => Class::CustomerMarketOrder,
+            (true, false) => Class::OtherMarketOrder,
+            (false, true) => Class::CustomerLimitOrder,
+            (false, false) => Class::OtherInterest,
         }
     }
 }
@@ -49,8 +55,6 @@ impl Ranking<Entry> for Side {
         if x.price != y.price {
             return self.better(x.price, y.price);
         }
-        let a = x.class();
-        let b = y.class();
-        a < b || a == b && x.time < y.time
+        (x.class(), x.time) < (y.class(), y.time)
     }
 }

@@ -7,24 +7,18 @@ use crate::numbers::Cause;
 // The five steps in which an order's balance is offered at a price.
 #[derive(Clone, Copy, Debug, PartialEq, Eq)]
 pub enum Step {
-    CustomerMarketOrders,
-    OtherMarketOrders,
-    CustomerLimitOrders,
-    GuaranteedQuotes,
-    OtherInterest,
+    CustomerMarketOrders = 1,
+    OtherMarketOrders = 2,
+    CustomerLimitOrders = 3,
+    GuaranteedQuotes = 4,
+    OtherInterest = 5,
 }
 
 impl Step {
     pub fn number(self) -> u8
         ensures { result ≡ step_number self }
     {
-        match self {
-            Step::CustomerMarketOrders => 1,
-            Step::OtherMarketOrders => 2,
-            Step::CustomerLimitOrders => 3,
-            Step::GuaranteedQuotes => 4,
-            Step::OtherInterest => 5,
-        }
+        self as u8
     }
 }
 

@@ -2,8 +2,9 @@
 ghost use Rattle.std.specs.Prelude.{◌≡◌};
 ghost use Rattle.rules.specs.Sides.{other_side, is_better};
 
-#[derive(Clone, Copy, Debug, PartialEq, Eq)]
+#[derive(Clone, Copy, Debug, Default, PartialEq, Eq)]
 pub enum Side {
+    #[default]
     Buy,
     Sell,
 }
@@ -31,8 +32,9 @@ impl Side {
 }
 
 // Who trades: a customer, another firm's own account, or a maker's quote, which may be a specialist's.
-#[derive(Clone, Copy, Debug, PartialEq, Eq)]
+#[derive(Clone, Copy, Debug, Default, PartialEq, Eq)]
 pub enum Kind {
+    #[default]
     Customer,
     Other,
     MakerQuote,
@@ -40,8 +42,9 @@ pub enum Kind {
 }
 
 // How long an order stands: for the day, or only for the moment of its arrival.
-#[derive(Clone, Copy, Debug, PartialEq, Eq)]
+#[derive(Clone, Copy, Debug, Default, PartialEq, Eq)]
 pub enum Term {
+    #[default]
     Day,
     ImmediateOrCancel,
 }
@@ -76,7 +79,8 @@ pub struct Entry {
 }
 
 // An order on its way over prices, at its entry or at its return from a route, and what the book keeps of one that is out.
-#[derive(Clone, Copy, Debug, PartialEq, Eq)]
+// An unused row of the orders out holds the default.
+#[derive(Clone, Copy, Debug, Default, PartialEq, Eq)]
 pub struct Routed {
     pub id: u64,
     pub firm: u16,

@@ -1,12 +1,23 @@
 -- What every lawful sharing leaves: claims that add up, and that a rule may be asked about again. Assumes nothing.
-use Rattle.std.proofs.Common.{◌≡◌, ℕ, ◌+◌, ◌<◌, ◌≤◌, min, List, [], ◌∷◌, map, length, refl, ap, ◌∙◌, arith}
-use Rattle.std.specs.List.{AllByRecursion}
+use Rattle.std.proofs.Common.{◌≡◌, ℕ, ◌+◌, ◌^◌, ◌<◌, ◌≤◌, min, List, [], ◌∷◌, map, length, refl, ap, ◌∙◌, arith}
+use Rattle.std.specs.List.{AllByRecursion, sum_by}
 use Rattle.std.proofs.lemmas.List.Elements.{length_all_zip}
 use Rattle.std.proofs.lemmas.List.{length-map}
+use Rattle.std.proofs.lemmas.List.Recursion.{is_sum_by}
 use Rattle.sharing.specs.declared.claims.Claim.{Claim}
 use Rattle.sharing.specs.Claims.{size_of, allotment_of, with_allotment, allotted, Ascending, Shareable}
 use Rattle.sharing.specs.Sharing.{Sharing, Lawful}
 use Rattle.sharing.specs.Totals.{total}
+use Rattle.sharing.specs.Allotted.{total_few}
+use Rattle.sharing.specs.ProRata.{sizes_small}
+
+-- the contracts of all claims that a rule may be asked about
+pub sizes_fit : (amount : ℕ) (cs : List Claim) → Shareable amount cs → total size_of cs < 2 ^ 32
+sizes_fit amount cs ok = omega (arith, ok.few, total_few size_of 99999 cs (sizes_small cs ok.sized))
+
+-- the sum as the library's iterators say it
+pub total_sum : {X : Type 0} (f : X → ℕ) (xs : List X) → total f xs ≡ sum_by f xs
+total_sum f xs = is_sum_by (total f) f refl (λ _ _. refl) xs
 
 all_allotted : (P : Claim → Type 0) → ((n : ℕ) (c : Claim) → P c → P (with_allotment n c)) → (ns : List ℕ) (cs : List Claim) → AllByRecursion P cs → AllByRecursion P (allotted ns cs)
 all_allotted P keeps [] cs ps = ps

@@ -7,10 +7,10 @@ use Rattle.std.specs.List.{AllByRecursion}
 use Rattle.std.proofs.ByRecursion.{All-weaker, All-map}
 use Rattle.std.proofs.lemmas.List.{length-map, length-take-le, drop_more, get_or_at, get_or_default}
 use Rattle.std.proofs.lemmas.List.Edits.{map_over_more}
-use Rattle.std.proofs.lemmas.Bool.{lt-ltb, le-ltb}
+use Rattle.std.proofs.lemmas.Bool.{both_ways, false_from_ne_true, lt-ltb, le-ltb}
 use Rattle.std.proofs.lemmas.Bool.Decides.{nat_tests}
 use Rattle.ranked.specs.Ranked.{all_inserted}
-use Rattle.ranked.proofs.Orderly.{Orderly, not_so, clash, sorted_all_inserted}
+use Rattle.ranked.proofs.Orderly.{Orderly, sorted_all_inserted}
 use Rattle.ranked.proofs.Strict.{Strict, strict_same, all_into, all_out}
 use Rattle.sharing.specs.declared.claims.Claim.{Claim}
 use Rattle.sharing.specs.Claims.{with_allotment, allotted, Ascending, remaining, larger_then_earlier}
@@ -93,7 +93,7 @@ module _ (ahead : Claim → Claim → Bool) where
   raised_first laws (suc n) [] s = refl
   raised_first laws (suc n) (c ∷ cs) s =
       let itself = ap one_if (laws.irreflexive c) in
-      let later = All-weaker (λ d. ahead c d ≡ true) (λ d. ahead d c ≡ false) (λ d cd. not_so (ahead d c) (λ dc. clash (laws.transitive c d c cd dc) (laws.irreflexive c))) cs s.0 in
+      let later = All-weaker (λ d. ahead c d ≡ true) (λ d. ahead d c ≡ false) (λ d cd. false_from_ne_true (ahead d c) (λ dc. both_ways _ (laws.irreflexive c) (laws.transitive c d c cd dc))) cs s.0 in
       let none : before_it (c ∷ cs) c ≡ 0 = omega (arith, none_before c cs later) in
       let first : one_more c ≡ bumped (suc n) (c ∷ cs) c = ap (λ b. with_allotment (c.allotment + one_if b) c) (sym (lt-ltb (before_it (c ∷ cs) c) (suc n) (omega (arith, none)))) in
       let shift = All-weaker (λ d. ahead c d ≡ true) (λ d. bumped n cs d ≡ bumped (suc n) (c ∷ cs) d) (λ d cd. ap (λ b. with_allotment (d.allotment + one_if b) d) (ltb_suc (before_it cs d) n) ∙ ap (λ k. with_allotment (d.allotment + one_if (nat_lt k (suc n))) d) (sym (one-add (before_it cs d)) ∙ ap (λ k. k + before_it cs d) (sym (ap one_if cd)))) cs s.0 in

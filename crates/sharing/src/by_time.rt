@@ -2,7 +2,7 @@
 ghost use Rattle.sharing.specs.Rules.{by_time};
 ghost use Rattle.sharing.specs.InTurn.{by_time_lawful};
 
-use crate::claims::Claim;
+use crate::claims::{Claim, total_size};
 use crate::rule::Rule;
 
 #[derive(Clone, Copy)]
@@ -15,18 +15,14 @@ impl Rule for ByTime {
 
     fn share(&self, amount: u32, claims: &mut [Claim]) {
         let mut left = amount;
-        for c in claims.iter_mut() {
-            let n = c.size.min(left);
-            c.allotment = n;
-            left -= n;
+        for c in claims {
+            c.allotment = c.size.min(left);
+            left -= c.allotment;
         }
     }
 
     fn floor(&self, amount: u32, claims: &[Claim], at: usize) -> u32 {
-        let mut left = amount;
-        for i in 0..at {
-            left = left.saturating_sub(claims[i].size);
-        }
+        let left = amount.saturating_sub(total_size(&claims[..at]));
         claims[at].size.min(left)
     }
 }

@@ -1,6 +1,7 @@
 // A claim on part of an amount, and the two orders in which claims are ranked.
-ghost use Rattle.std.specs.Prelude.{ℕ, nat_lt};
-ghost use Rattle.sharing.specs.Claims.{remaining, larger_then_earlier};
+ghost use Rattle.std.specs.Prelude.{◌≡◌, ℕ, ◌^◌, ◌<◌, nat_lt};
+ghost use Rattle.sharing.specs.Claims.{remaining, larger_then_earlier, size_of};
+ghost use Rattle.sharing.specs.Totals.{total};
 ghost use Rattle.std.proofs.Common.{rules};
 
 use ranked::Ranking;
@@ -11,6 +12,24 @@ pub struct Claim {
     pub size: u32,
     pub time: u32,
     pub allotment: u32,
+}
+
+impl Claim {
+    // The contracts that it would still trade.
+    fn left(&self) -> u32
+        ensures { result ≡ (remaining self.now).0 }
+    {
+        self.size.saturating_sub(self.allotment)
+    }
+}
+
+// The contracts of all claims.
+#[tactic(auto, using(crate::proofs::Shared::total_sum))]
+pub(crate) fn total_size(claims: &[Claim]) -> u32
+    requires { total size_of claims.now < 2 ^ 32 }
+    ensures { result ≡ total size_of claims.now }
+{
+    claims.iter().map(|c| c.size).sum()
 }
 
 // The claim that has most left to fill comes first, and of equals the earlier.
@@ -31,9 +50,7 @@ impl Ranking<Claim> for LargestRemaining {
     ghost total = { Prim.search rules };
 
     fn precedes(&self, x: &Claim, y: &Claim) -> bool {
-        let a = x.size.saturating_sub(x.allotment);
-        let b = y.size.saturating_sub(y.allotment);
-        b < a || a == b && x.time < y.time
+        (y.left(), x.time) < (x.left(), y.time)
     }
 }
 

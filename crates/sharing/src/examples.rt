@@ -6,7 +6,7 @@ use crate::claims::Claim;
 use crate::pro_rata::SizeProRata;
 use crate::rule::share_out;
 
-fn claim(size: u32, time: u32) -> Claim
+pub(crate) fn claim(size: u32, time: u32) -> Claim
     ensures { result ≡ record { size = size; time = time; allotment = 0 } }
 {
     Claim {
@@ -25,8 +25,5 @@ pub fn worked_examples() -> ([u32; 3], [u32; 2])
     share_out(&SizeProRata, 7, &mut tens);
     let mut pair = [claim(1, 1), claim(9, 2)];
     share_out(&SizeProRata, 5, &mut pair);
-    (
-        [tens[0].allotment, tens[1].allotment, tens[2].allotment],
-        [pair[0].allotment, pair[1].allotment],
-    )
+    (tens.map(|c| c.allotment), pair.map(|c| c.allotment))
 }

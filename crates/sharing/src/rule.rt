@@ -6,6 +6,7 @@ ghost use Rattle.sharing.specs.Totals.{total};
 
 use crate::claims::Claim;
 
+// Stays asked of amount and claims: a struct of both would have to hold claims that others lend, and each rule reads them apart.
 pub trait Rule {
     // For an amount and claims, the allotments and the floors.
     ghost meaning: { Self → Sharing };
@@ -24,18 +25,6 @@ pub trait Rule {
     ghost lawful: { (r : Self) → Lawful (meaning r) };
 }
 
-// The contracts allotted to all claims.
-fn total_allotted(claims: &[Claim]) -> u32
-    requires { total allotment_of claims.now < 2 ^ 32 }
-    ensures { result ≡ total allotment_of claims.now }
-{
-    let mut sum = 0;
-    for c in claims {
-        sum += c.allotment;
-    }
-    sum
-}
-
 // Shares an amount by any rule, and answers how many contracts were allotted: all that the amount and the sizes allow.
 pub fn share_out<R: Rule>(rule: &R, amount: u32, claims: &mut [Claim]) -> u32
     requires { Shareable amount claims.old }
@@ -44,5 +33,5 @@ pub fn share_out<R: Rule>(rule: &R, amount: u32, claims: &mut [Claim]) -> u32
     ensures again { Shareable amount claims.new }
 {
     rule.share(amount, claims);
-    total_allotted(claims)
+    claims.iter().map(|c| c.allotment).sum()
 }

@@ -4,7 +4,7 @@ ghost use Rattle.sharing.specs.Claims.{Shareable};
 
 use crate::by_time::ByTime;
 use crate::claims::Claim;
-use crate::examples::worked_examples;
+use crate::examples::{claim, worked_examples};
 use crate::pro_rata::SizeProRata;
 use crate::rule::{Rule, share_out};
 use std::process::Abort;
@@ -15,9 +15,8 @@ fn of(size: u32, time: u32) -> Claim
     ensures { result ≡ record { size = size; time = time; allotment = 7 } }
 {
     Claim {
-        size,
-        time,
         allotment: 7,
+        ..claim(size, time)
     }
 }
 
@@ -33,13 +32,19 @@ fn expect<R: Rule>(
     requires { Shareable amount claims.old }
 {
     let shared = share_out(rule, amount, claims);
-    assert!(rt; claims.len() == allotments.len() && claims.len() == floors.len());
-    let mut sum = 0u32;
-    for i in 0..claims.len() {
-        assert_eq!(rt; claims[i].allotment, allotments[i]);
-        assert_eq!(rt; rule.floor(amount, claims, i), floors[i]);
-        sum = sum.saturating_add(allotments[i]);
+    assert!(rt; claims.len() == floors.len());
+    assert!(rt;
+        claims
+            .iter()
+            .map(|c| c.allotment)
+            .eq(allotments.iter().copied())
+    );
+    for (at, floor) in floors.iter().enumerate() {
+        assert_eq!(rt; rule.floor(amount, claims, at), *floor);
     }
+    let sum = allotments
+        .iter()
+        .fold(0u32, |sum, n| sum.saturating_add(*n));
     assert_eq!(rt; shared, sum);
     Ok(())
 }
@@ -147,6 +152,7 @@ fn fill_largest(claims: &mut [Claim])
     requires { length claims.old ≤ 256 }
     ensures { Shareable 99999 claims.new }
 {
+    // Stays a loop over an index: after one over `iter_mut` and the times, the check knows none of the claims.
     for i in 0..claims.len() {
         claims[i] = of(99999, i as u32 + 1);
     }
@@ -158,9 +164,7 @@ fn most_and_largest(rt: HostRuntime) -> Result<(), Fail> {
     fill_largest(&mut claims);
     // 99,999 over 256 equals is 390 each and 159 over, which go to the earliest
     let mut allotments = [390; 256];
-    for i in 0..159 {
-        allotments[i] = 391;
-    }
+    allotments[..159].fill(391);
     expect(
         &rt,
         &SizeProRata,

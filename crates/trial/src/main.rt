@@ -1,11 +1,36 @@
 // The trial program: one sharing by each rule, printed claim by claim; the collars and caps of some orders; a guarantee.
 #![tactic(auto)]
 
+ghost use Rattle.std.specs.Prelude.{◌≡◌};
 ghost use Rattle.sharing.specs.Claims.{Shareable};
 
 use rules::{Kind, Order, Side, Term, for_the_group};
 use sharing::{ByTime, Claim, Rule, SizeProRata, share_out};
-use std::io;
+use std::{fmt, io};
+
+// A price as it is printed, or "none" for a Market Order's.
+#[derive(Clone, Copy)]
+struct Price(Option<u32>);
+
+impl fmt::Display for Price {
+    fn fmt<W: fmt::Write>(&self, f: &mut fmt::Formatter<W>) -> fmt::Result {
+        match self.0 {
+            Some(price) => write!(f, "{price}"),
+            None => f.write_str("none"),
+        }
+    }
+}
+
+// A claim with no allotment yet.
+fn claim(size: u32, time: u32) -> Claim
+    ensures { result ≡ record { size = size; time = time; allotment = 0 } }
+{
+    Claim {
+        size,
+        time,
+        allotment: 0,
+    }
+}
 
 // Shares an amount by a rule, and prints what each claim got, with its floor, and what that makes in all.
 fn show<R: Rule>(
@@ -23,26 +48,13 @@ fn show<R: Rule>(
     let shared = share_out(rule, amount, claims);
     let mut sizes = 0u32;
     let mut floors = 0u32;
-    for i in 0..claims.len() {
-        let Claim {
-            size,
-            time,
-            allotment,
-        } = claims[i];
+    for (i, claim) in claims.iter().enumerate() {
         let floor = rule.floor(amount, claims, i);
-        println!(rt; "{time},{size},{floor},{allotment}")?;
-        sizes = sizes.saturating_add(size);
+        println!(rt; "{},{},{floor},{}", claim.time, claim.size, claim.allotment)?;
+        sizes = sizes.saturating_add(claim.size);
         floors = floors.saturating_add(floor);
     }
     println!(rt; "all,{sizes},{floors},{shared}")
-}
-
-// A price, or "none" for a Market Order's.
-fn show_price(rt: &impl Print, price: Option<u32>) -> io::Result<()> {
-    match price {
-        Some(p) => print!(rt; "{p}"),
-        None => print!(rt; "none"),
-    }
 }
 
 // Prints the collar and the cap that a Day order gets at a reference, where the tick is 5 cents.
@@ -60,16 +72,15 @@ fn show_cap(rt: &impl Print, side: Side, price: Option<u32>, reference: u32) -> 
         own_firm_mark: false,
         may_route: false,
     };
-    let collar = side.collar(5, price, reference);
+    // Stays a match: a type of its own around a side would only wrap these two arms.
     let name = match side {
         Side::Buy => "buy",
         Side::Sell => "sell",
     };
-    print!(rt; "{name},")?;
-    show_price(rt, price)?;
-    print!(rt; ",{reference},{collar},")?;
-    show_price(rt, order.cap(5, Some(reference)))?;
-    println!(rt)
+    let limit = Price(price);
+    let collar = side.collar(5, price, reference);
+    let cap = Price(order.cap(5, Some(reference)));
+    println!(rt; "{name},{limit},{reference},{collar},{cap}")
 }
 
 fn show_caps(rt: &impl Print) -> io::Result<()> {
@@ -83,28 +94,7 @@ fn show_caps(rt: &impl Print) -> io::Result<()> {
 }
 
 fn main(rt: HostRuntime) -> io::Result<()> {
-    let mut claims = [
-        Claim {
-            size: 100,
-            time: 1,
-            allotment: 0,
-        },
-        Claim {
-            size: 200,
-            time: 2,
-            allotment: 0,
-        },
-        Claim {
-            size: 500,
-            time: 3,
-            allotment: 0,
-        },
-        Claim {
-            size: 3,
-            time: 4,
-            allotment: 0,
-        },
-    ];
+    let mut claims = [claim(100, 1), claim(200, 2), claim(500, 3), claim(3, 4)];
     show(&rt, "time", &ByTime, 101, &mut claims)?;
     println!(rt)?;
     show(&rt, "size pro rata", &SizeProRata, 101, &mut claims)?;

@@ -1,19 +1,12 @@
-use Rattle.std.proofs.Common.{sym, ap, ◌∙◌, arith}
-use Rattle.std.proofs.lemmas.List.{take_all}
-use Rattle.sharing.specs.Totals.{one_if, count}
-use Rattle.sharing.specs.Allotted.{total_more}
+use Rattle.std.proofs.Common.{◌∙◌, rules}
+use borrow.Author.Tests.{tests}
+use Rattle.std.proofs.lemmas.Iterator.{YieldsList-from_slice}
+use Rattle.std.proofs.lemmas.Iterator.Search.{any_from_yields_List}
 use Rattle.matching.specs.Parts.{part_test, takes_part}
-use Rattle.matching.proofs.Shown.{no_entry, count_some, count_none}
+use Rattle.matching.proofs.Shown.{any_is}
 use Rattle.matching.proofs.price.any.Goals as goal
 
-pub returns-then-takes : goal.returns-then-takes
-returns-then-takes c = sym (count_some (part_test c.args.part) c.args.run.now c.loop-i.i no_entry c.loop-i-test.true (sym c.takes.ensures ∙ c.if-takes.true))
-
-pub loop-i-preserved : goal.loop-i-preserved
-loop-i-preserved c =
-    let t = takes_part (part_test c.args.part) in
-    let none = ap one_if (sym c.takes.ensures ∙ c.if-takes.false) in
-    omega (arith, c.loop-i.invariant, total_more (λ e. one_if (t e)) c.args.run.now c.loop-i.i no_entry c.loop-i-test.true)
-
 pub returns : goal.returns
-returns c = sym (count_none (part_test c.args.part) c.args.run.now (ap (count (takes_part (part_test c.args.part))) (sym (take_all c.loop-i.i c.args.run.now c.loop-i-test.false)) ∙ c.loop-i.invariant))
+returns c =
+    any_from_yields_List (takes_part (part_test c.args.part)) _ _ _ c.any.ensures.ran (YieldsList-from_slice c.args.run.now cc) (λ x b q k. search (rules, tests))
+    ∙ any_is (part_test c.args.part) c.args.run.now

@@ -1,7 +1,6 @@
-use Rattle.std.proofs.Common.{◌+◌, ◌≤◌}
 use Rattle.rules.specs.Checks.{is_barred}
 use Rattle.matching.proofs.Barred.{Barring}
 use Rattle.matching.proofs.price.bar.Given as goal
 
-abbrev pub invariant-loop-i : goal.invariant-loop-i
-invariant-loop-i l = (l.at ≤ l.initial.at + l.i) × Barring (is_barred l.initial.firm l.initial.mark) l.initial.run l.initial.at l.initial.tape l.i l.run l.at l.tape
+abbrev pub invariant-loop-e : goal.invariant-loop-e
+invariant-loop-e l = Barring (is_barred l.order.firm l.order.own_firm_mark) l.initial.run l.initial.lent l.e-index l.run l.lent

@@ -1,30 +1,20 @@
-use Rattle.std.proofs.Common.{◌+◌, cond, get_or, sym, ap, ◌∙◌, arith}
-use Rattle.std.proofs.lemmas.List.{take_all}
-use Rattle.sharing.specs.Totals.{total}
-use Rattle.sharing.specs.Allotted.{total_more, total_part}
-use Rattle.matching.specs.Parts.{part_test}
-use Rattle.matching.proofs.Shown.{no_entry, adds, adds_within, shown_is}
+use Rattle.std.proofs.Common.{filter, ◌∙◌, rules}
+use borrow.Author.Tests.{tests}
+use Rattle.std.proofs.lemmas.Iterator.{YieldsList-from_slice, YieldsList-from_map}
+use Rattle.std.proofs.lemmas.Iterator.Consumers.{YieldsList-at, YieldsList-from_filter, sum_by_from_yields_List, fits_by_from_yields_list}
+use Rattle.rules.specs.Level.{size_of}
+use Rattle.matching.specs.Parts.{part_test, takes_part}
+use Rattle.matching.proofs.Shown.{shown_is, shown_fits}
 use Rattle.matching.proofs.price.shown.Goals as goal
-use Rattle.matching.proofs.price.shown.Goals.{then-takes, else-takes}
 
-pub overflow_add-sum : goal.overflow_add-sum
-overflow_add-sum c =
-    let f = adds (part_test c.args.part) in
-    let run = c.args.run.now in
-    let i = c.loop-i.i in
-    let here = ap (λ b. cond b (get_or run i no_entry).size 0) (sym c.takes.ensures ∙ c.if-takes.true) in
-    omega (arith, c.loop-i.invariant, here, total_more f run i no_entry c.loop-i-test.true, total_part f run (i + 1), adds_within (part_test c.args.part) run, c.requires)
-
-pub loop-i-preserved : goal.loop-i-preserved
-loop-i-preserved c =
-    let f = adds (part_test c.args.part) in
-    let run = c.args.run.now in
-    let i = c.loop-i.i in
-    let more = total_more f run i no_entry c.loop-i-test.true in
-    elim c.if-takes.branch [
-      | then-takes w ↦ omega (arith, c.loop-i.invariant, more, w.sum-is, ap (λ b. cond b (get_or run i no_entry).size 0) (sym c.takes.ensures ∙ w.if-takes.true))
-      | else-takes w ↦ omega (arith, c.loop-i.invariant, more, w.sum-is, ap (λ b. cond b (get_or run i no_entry).size 0) (sym c.takes.ensures ∙ w.if-takes.false))
-    ]
+pub sum-requires-clause-fits : goal.sum-requires-clause-fits
+sum-requires-clause-fits c =
+    fits_by_from_yields_list size_of (filter (takes_part (part_test c.args.part)) c.args.run.now) c.map.result _
+    (YieldsList-from_map _ size_of (YieldsList-at c.map.ensures.source (YieldsList-from_filter _ (takes_part (part_test c.args.part)) (YieldsList-at c.filter.ensures.source (YieldsList-from_slice c.args.run.now cc)) c.filter.ensures.closure (λ x b q k. search (rules, tests)))) c.map.ensures.closure (λ x r q k. search rules))
+    (shown_fits (part_test c.args.part) c.args.run.now c.requires)
 
 pub returns : goal.returns
-returns c = c.loop-i.invariant ∙ ap (total (adds (part_test c.args.part))) (take_all c.loop-i.i c.args.run.now c.loop-i-test.false) ∙ sym (shown_is (part_test c.args.part) c.args.run.now)
+returns c =
+    sum_by_from_yields_List size_of (filter (takes_part (part_test c.args.part)) c.args.run.now) c.map.result _ c.sum.ensures.ran
+    (YieldsList-from_map _ size_of (YieldsList-at c.map.ensures.source (YieldsList-from_filter _ (takes_part (part_test c.args.part)) (YieldsList-at c.filter.ensures.source (YieldsList-from_slice c.args.run.now cc)) c.filter.ensures.closure (λ x b q k. search (rules, tests)))) c.map.ensures.closure (λ x r q k. search rules))
+    ∙ shown_is (part_test c.args.part) c.args.run.now

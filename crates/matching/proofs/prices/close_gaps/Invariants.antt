@@ -3,4 +3,4 @@ use Rattle.matching.specs.Parts.{is_live}
 use Rattle.matching.proofs.prices.close_gaps.Given as goal
 
 abbrev pub invariant-loop-i : goal.invariant-loop-i
-invariant-loop-i l = FiltersInPlace is_live l.initial.places l.places l.k l.i
+invariant-loop-i l = FiltersInPlace is_live l.initial.entries l.entries l.k l.i

@@ -1,36 +1,28 @@
-use Rattle.std.proofs.Common.{map, length, get_or, sym, ap, ◌∙◌, arith}
-use Rattle.std.proofs.lemmas.Bool.{lt-ltb, le-ltb}
-use Rattle.rules.specs.Level.{size_of, claim_of}
-use Rattle.matching.specs.Parts.{part_test}
-use Rattle.matching.proofs.Gathered.{no_entry, among_gone, among_other, among_all, gathered_more, gathered_past}
+use Rattle.std.proofs.Common.{map, length, filter, sym, ap, ◌∙◌, arith}
+use Rattle.std.proofs.lemmas.List.{take_all}
+use Rattle.rules.specs.Level.{claim_of}
+use Rattle.matching.specs.Parts.{is_live, part_test, takes_part}
+use Rattle.matching.proofs.Gathered.{gathered_more, gathered_past}
+use Rattle.matching.proofs.Shown.{kept_twice}
 use Rattle.matching.proofs.step.gather.Goals as goal
-use Rattle.matching.proofs.step.gather.Goals.{then-e-gt0+then-has, else-e-gt0, else-e-gt0-via-then-e-gt0+else-has, else-e-gt0-via-else-e-gt0}
+use Rattle.matching.proofs.step.gather.Goals.{then-takes, else-takes}
 
-pub loop-i-preserved : goal.loop-i-preserved
-loop-i-preserved c =
-    let t = part_test c.args.part in
+pub loop-e-preserved : goal.loop-e-preserved
+loop-e-preserved c =
+    let t = takes_part (part_test c.args.part) in
     let run = c.args.run.now in
-    let i = c.loop-i.i in
-    let size = size_of (get_or run i no_entry) in
-    elim c.if-e-gt0.branch [
-      | then-e-gt0+then-has w ↦
-          rw (w.sheet-is, w.n-is)
-          (gathered_more t run i no_entry c.loop-i-test.true c.loop-i.sheet c.loop-i.n c.loop-i.invariant
-          (omega (arith, c.loop-i.invariant.behind)) (lt-ltb 0 size w.if-e-gt0.true) (sym w.if-has.ensures))
-      | else-e-gt0 w ↦
-          rw (w.sheet-is, w.n-is)
-          (gathered_past t run i no_entry c.loop-i-test.true c.loop-i.sheet c.loop-i.n c.loop-i.invariant
-          (elim w.else-e-gt0.branch [
-            | else-e-gt0-via-then-e-gt0+else-has v ↦ among_other t run i no_entry c.loop-i-test.true (lt-ltb 0 size v.if-e-gt0.true) (sym v.if-has.ensures)
-            | else-e-gt0-via-else-e-gt0 v ↦ among_gone t run i no_entry c.loop-i-test.true (le-ltb 0 size v.if-e-gt0.false)
-          ]))
+    let i = c.loop-e.e-index in
+    elim c.if-takes.branch [
+      | then-takes w ↦ rw (w.sheet-is, w.n-is) (gathered_more t run c.loop-e.sheet i c.loop-e.n c.loop-e.invariant c.loop-e-test.true (omega (arith, c.loop-e.invariant.behind)) (sym c.takes.ensures ∙ w.if-takes.true))
+      | else-takes w ↦ rw (w.sheet-is, w.n-is) (gathered_past t run c.loop-e.sheet i c.loop-e.n c.loop-e.invariant c.loop-e-test.true (sym c.takes.ensures ∙ w.if-takes.false))
     ]
 
 pub returns : goal.returns
 returns c =
-    let all = among_all (part_test c.args.part) c.args.run.now c.loop-i.i c.loop-i-test.false in
+    let t = part_test c.args.part in
+    let all = ap (filter (takes_part t)) (take_all c.loop-e.e-index c.args.run.now c.loop-e-test.false) ∙ sym (kept_twice is_live t c.args.run.now) in
     record {
-      value = c.loop-i.invariant.value ∙ ap length all;
-      claims = c.loop-i.invariant.claims ∙ ap (map claim_of) all;
-      length = c.loop-i.auto.sheet;
+      value = c.loop-e.invariant.value ∙ ap length all;
+      claims = c.loop-e.invariant.claims ∙ ap (map claim_of) all;
+      length = c.loop-e.auto.sheet;
     }

@@ -1,22 +1,16 @@
-use Rattle.std.proofs.Common.{length, sym, ap, ◌∙◌, subst, arith}
-use Rattle.sharing.specs.Claims.{Shareable}
+use Rattle.std.proofs.Common.{length, ap, ◌∙◌, subst, arith}
 use Rattle.matching.specs.Parts.{part_test, live}
+use Rattle.matching.specs.Tapes.{Writes}
 use Rattle.matching.proofs.Stepped.{length_part, from_sheet}
 use Rattle.matching.proofs.step.step.Goals as goal
 
-pub share_first-given-requires : goal.share_first-given-requires
-share_first-given-requires g c = record {
-  within = omega (arith, c.gather-n.ensures.value, c.gather-n.ensures.length, c.requires.sheet, length_part (part_test c.args.part) c.args.run.now);
-  shareable = subst (Shareable c.args.amount) (sym c.gather-n.ensures.claims) c.requires.shareable;
-}
-
-pub pay-at-requires : goal.pay-at-requires
-pay-at-requires g c =
+pub pay-requires : goal.pay-requires
+pay-requires g c =
     let sheet =
-    from_sheet c.args.name (part_test c.args.part) (g.R.Rule.meaning c.args.rule.now) (g.met.R.Rule.lawful c.args.rule.now) c.args.amount c.args.deal.balance (live c.args.run.now) c.requires.shareable
-    c.gather-n.result c.gather-n.new.sheet c.share_first-given.new.sheet c.gather-n.ensures.value c.gather-n.ensures.claims c.share_first-given.ensures.shared c.share_first-given.result c.share_first-given.ensures.value in
+    from_sheet c.args.name (part_test c.args.part) (g.R.Rule.meaning c.args.rule.now) (g.met.R.Rule.lawful c.args.rule.now) c.args.amount c.args.balance (live c.args.run.now) c.requires.shareable
+    c.share-given.new.sheet c.share-given.ensures.shared c.share-given.result c.share-given.ensures.value in
     record {
-      claims = omega (arith, c.share_first-given.ensures.length, c.gather-n.ensures.length, c.requires.sheet, length_part (part_test c.args.part) c.args.run.now);
+      claims = omega (arith, c.share-given.ensures.length, c.requires.sheet, length_part (part_test c.args.part) c.args.run.now);
       within = sheet.within;
       room = omega (arith, c.requires.room, ap length sheet.lines);
     }
@@ -24,13 +18,12 @@ pay-at-requires g c =
 pub returns : goal.returns
 returns g c =
     let sheet =
-    from_sheet c.args.name (part_test c.args.part) (g.R.Rule.meaning c.args.rule.now) (g.met.R.Rule.lawful c.args.rule.now) c.args.amount c.args.deal.balance (live c.args.run.now) c.requires.shareable
-    c.gather-n.result c.gather-n.new.sheet c.share_first-given.new.sheet c.gather-n.ensures.value c.gather-n.ensures.claims c.share_first-given.ensures.shared c.share_first-given.result c.share_first-given.ensures.value in
+    from_sheet c.args.name (part_test c.args.part) (g.R.Rule.meaning c.args.rule.now) (g.met.R.Rule.lawful c.args.rule.now) c.args.amount c.args.balance (live c.args.run.now) c.requires.shareable
+    c.share-given.new.sheet c.share-given.ensures.shared c.share-given.result c.share-given.ensures.value in
     record {
-      run = rw sheet.run at c.pay-at.ensures.run;
-      places = c.pay-at.ensures.places;
-      sheet = c.share_first-given.ensures.length ∙ c.gather-n.ensures.length;
-      tape = rw sheet.lines at c.pay-at.ensures.tape;
-      balance = sheet.left;
-      at = rw sheet.lines at c.pay-at.ensures.value;
+      left = sheet.left;
+      entries = rw sheet.run at c.pay.ensures.run;
+      places = c.pay.ensures.places;
+      writes = subst (λ l. Writes l c.args.lent.now c.pay.new.lent) sheet.lines
+          (let w = c.pay.ensures.writes in record { tape = w.tape; lines = w.lines; sheet = w.sheet ∙ c.share-given.ensures.length; tape_lender = w.tape_lender; sheet_lender = w.sheet_lender });
     }

@@ -1,18 +1,26 @@
-use Rattle.std.proofs.Common.{sym, ap, ◌∙◌, subst, arith}
-use Rattle.sharing.specs.Claims.{allotment_of, Shareable}
+use Rattle.std.proofs.Common.{◌≡◌, ◌^◌, ◌<◌, sym, ap, ◌∙◌, subst, rules, arith}
+use Rattle.std.specs.List.{sum_by}
+use Rattle.sharing.specs.Claims.{Shareable, allotment_of}
 use Rattle.sharing.specs.Totals.{total}
-use Rattle.sharing.proofs.Shared.{shareable_again, shared_total}
+use Rattle.sharing.proofs.Shared.{shareable_again, shared_total, total_sum}
 use Rattle.sharing.proofs.rule.share_out.Goals as goal
 
-pub total_allotted-requires : goal.total_allotted-requires
-total_allotted-requires g c =
-    omega (arith, ap (total allotment_of) c.share.ensures, shared_total (g.R.Rule.meaning c.args.rule.now) (g.met.R.Rule.lawful c.args.rule.now) c.args.amount c.args.claims.now c.requires, c.requires.small)
+pub sum-requires-clause-fits : goal.sum-requires-clause-fits
+sum-requires-clause-fits g c =
+    let cs = c.args.claims.now in
+    let shared = ap (total allotment_of) c.share.ensures ∙ shared_total (g.R.Rule.meaning c.args.rule.now) (g.met.R.Rule.lawful c.args.rule.now) c.args.amount cs c.requires in
+    let fits : sum_by allotment_of c.share.new.claims < 2 ^ 32 = omega (arith, shared, total_sum allotment_of c.share.new.claims, c.requires.small) in
+    search rules
 
-pub returns : goal.returns
-returns g c =
-    let meaning = g.R.Rule.meaning c.args.rule.now in
-    record {
-      after = c.share.ensures;
-      value = c.total_allotted.ensures ∙ ap (total allotment_of) c.share.ensures ∙ shared_total meaning (g.met.R.Rule.lawful c.args.rule.now) c.args.amount c.args.claims.now c.requires;
-      again = subst (Shareable c.args.amount) (sym c.share.ensures) (shareable_again c.args.amount (meaning.allotments c.args.amount c.args.claims.now) c.args.claims.now c.requires);
-    }
+pub returns-clause-value : goal.returns-clause-value
+returns-clause-value g c =
+    let cs = c.args.claims.now in
+    let chain : c.sum.result ≡ sum_by allotment_of c.share.new.claims = search rules in
+    chain
+    ∙ sym (total_sum allotment_of c.share.new.claims)
+    ∙ ap (total allotment_of) c.share.ensures
+    ∙ shared_total (g.R.Rule.meaning c.args.rule.now) (g.met.R.Rule.lawful c.args.rule.now) c.args.amount cs c.requires
+
+pub returns-clause-again : goal.returns-clause-again
+returns-clause-again g c =
+    subst (Shareable c.args.amount) (sym c.share.ensures) (shareable_again c.args.amount ((g.R.Rule.meaning c.args.rule.now).allotments c.args.amount c.args.claims.now) c.args.claims.now c.requires)

@@ -1,52 +1,39 @@
-use Rattle.std.proofs.Common.{◌≡◌, length, is_some}
-use Rattle.std.proofs.lemmas.Bool.{true≢false}
+use Rattle.std.proofs.Common.{◌≡◌, ◌-◌, Bool, cond, length, is_some, Some, None, Ok, refl, ap, subst}
 use Rattle.rules.specs.Calls.{Entering, entry_of}
 use Rattle.rules.proofs.CallsKeep.{kept}
 use Rattle.laws.specs.Histories.Call.{enters}
-use Rattle.book.specs.Books.{model}
+use Rattle.book.specs.Answers.{Settles}
 use Rattle.book.specs.Tickets.{Gives}
-use Rattle.book.proofs.OneProof.{sound_of, fits_of}
+use Rattle.book.specs.declared.keeping.Accepted.{Accepted}
 use Rattle.book.proofs.Settled.{settled_sound, stays_lawful}
-use Rattle.book.proofs.Tickets.{settles_refused, settles_other, entry_gives}
+use Rattle.book.proofs.Tickets.{less_none, settles_other, entry_gives, entry_lines}
 use Rattle.book.proofs.keeping.Book.enter.Goals as goal
 
-pub enter-requires : goal.enter-requires
-enter-requires g c = record { sound = sound_of (model c.args.self.now.state) c.args.self.now.sound; fits = fits_of c.args.self.now.state c.args.self.now.fits }
+pub returns-in_err-routed-clause-lawful : goal.returns-in_err-routed-clause-lawful
+returns-in_err-routed-clause-lawful g c = λ keeps. stays_lawful c.args.self.now (enters (record { shares = g.R.Rule.meaning c.args.rule.now; keeps = keeps }) (record { order = c.args.order.now; tape = length c.args.tape.now; sheet = length c.args.sheet.now }))
 
-pub invariant_of-self : goal.invariant_of-self
-invariant_of-self g c =
-    let m = model c.args.self.now.state in
-    let u : Entering = record { order = c.args.order.now; tape = length c.args.tape.now; sheet = length c.args.sheet.now } in
+pub invariant_of-self-2 : goal.invariant_of-self-2
+invariant_of-self-2 g c =
+    let m = c.self.inside.state in
+    let u : Entering = record { order = c.args.order.now; tape = length c.args.tape.now - 0; sheet = length c.args.sheet.now } in
     let rule = g.R.Rule.meaning c.args.rule.now in
-    let sound = sound_of m c.args.self.now.sound in
-    record { sound = ∣ settled_sound (entry_of rule u m) m c.enter.result (model c.enter.new.state) (λ d a. (a.lines ≡ d.answer) × (a.routed ≡ is_some d.ticket)) sound (kept.entry rule u m sound) c.enter.ensures.outcome ∣₁; fits = ∣ c.enter.ensures.fits ∣₁ }
+    settled_sound {A = Bool} (entry_of rule u m) m c.enter.result c.enter.new.self (λ d routed. routed ≡ is_some d.ticket) c.self.invariant (kept.entry rule u m c.self.invariant) c.enter.ensures.outcome
 
-pub returns-in-Err : goal.returns-in-Err
-returns-in-Err g c =
-    let m = model c.args.self.now.state in
-    let u : Entering = record { order = c.args.order.now; tape = length c.args.tape.now; sheet = length c.args.sheet.now } in
-    let rule = g.R.Rule.meaning c.args.rule.now in
-    let e = c.in-Err.ensures in
-    record {
-      outcome = settles_refused (entry_of rule u m) m (model c.enter.new.state) c.in-Err.why (λ d a. (a.lines ≡ d.answer) × (a.routed ≡ is_some d.ticket)) (λ d a. (a.lines ≡ d.answer) × Gives c.args.self.now.state.series d.ticket a.ticket) e.outcome;
-      tape = e.tape;
-      sheet = e.sheet;
-      length = e.length;
-      lawful = λ keeps. stays_lawful m (enters (record { shares = rule; keeps = keeps }) u);
-    }
+pub returns-clause-lawful : goal.returns-clause-lawful
+returns-clause-lawful g c = λ keeps. stays_lawful c.args.self.now (enters (record { shares = g.R.Rule.meaning c.args.rule.now; keeps = keeps }) (record { order = c.args.order.now; tape = length c.args.tape.now; sheet = length c.args.sheet.now }))
 
-pub returns-in-Ok : goal.returns-in-Ok
-returns-in-Ok g c =
-    let m = model c.args.self.now.state in
-    let u : Entering = record { order = c.args.order.now; tape = length c.args.tape.now; sheet = length c.args.sheet.now } in
+pub returns-clause-outcome : goal.returns-clause-outcome
+returns-clause-outcome g c =
+    let m = c.args.self.now in
+    let u : Entering = record { order = c.args.order.now; tape = length c.args.tape.now - 0; sheet = length c.args.sheet.now } in
     let rule = g.R.Rule.meaning c.args.rule.now in
-    let e = c.in-Ok.ensures in
-    record {
-      outcome = settles_other (entry_of rule u m) m (model c.enter.new.state) c.in-Ok.traded (record { lines = c.in-Ok.traded.lines; ticket = c.ticket_for-ticket.result }) (λ d a. (a.lines ≡ d.answer) × (a.routed ≡ is_some d.ticket)) (λ d a. (a.lines ≡ d.answer) × Gives c.args.self.now.state.series d.ticket a.ticket)
-          (λ d is fits. (fits.0, entry_gives rule u m d is c.in-Ok.traded.routed fits.1 c.args.self.now.state.series c.ticket_for-ticket.result c.ticket_for-ticket.ensures))
-          e.outcome;
-      tape = e.tape;
-      sheet = λ refused. absurd (true≢false refused);
-      length = e.length;
-      lawful = λ keeps. stays_lawful m (enters (record { shares = rule; keeps = keeps }) u);
-    }
+    let accepted = c.in_ok-routed.ensures in
+    subst (λ n. Settles {A = Accepted} (entry_of rule (record u { tape = n }) m) m (Ok (record { lines = c.enter.new.lent.lines; ticket = c.ticket_for-ticket.result })) c.enter.new.self (λ d a. (a.lines ≡ d.answer) × Gives m.opening.series d.ticket a.ticket)) (less_none (length c.args.tape.now))
+    (subst (λ x. Settles {A = Accepted} (entry_of rule u x) x (Ok (record { lines = c.enter.new.lent.lines; ticket = c.ticket_for-ticket.result })) c.enter.new.self (λ d a. (a.lines ≡ d.answer) × Gives x.opening.series d.ticket a.ticket)) c.self.view_is
+    (settles_other (entry_of rule u c.self.inside.state) c.self.inside.state c.enter.new.self c.in_ok-routed.routed _ (λ d routed. routed ≡ is_some d.ticket) (λ d a. (a.lines ≡ d.answer) × Gives c.self.inside.state.opening.series d.ticket a.ticket)
+    (λ d is went. (
+      entry_lines rule u c.self.inside.state _ _ c.enter.ensures.tapes refl d is,
+      entry_gives rule u c.self.inside.state d is c.in_ok-routed.routed went c.self.inside.state.opening.series c.ticket_for-ticket.result
+          (subst (λ n. Gives n (cond c.in_ok-routed.routed (Some c.args.order.now.id) None) c.ticket_for-ticket.result) (ap (λ x. x.state.opening.series) c.self-inside.view_is) c.ticket_for-ticket.ensures),
+    ))
+    accepted.outcome))

@@ -1,49 +1,30 @@
-use Rattle.std.proofs.Common.{◌≡◌, length, is_some}
-use Rattle.std.proofs.lemmas.Bool.{true≢false}
+use Rattle.std.proofs.Common.{◌-◌, length, Ok, refl, subst}
 use Rattle.rules.specs.Calls.{Returning, return_of}
 use Rattle.rules.proofs.CallsKeep.{kept}
 use Rattle.laws.specs.Histories.Call.{returns as returning}
-use Rattle.book.specs.Books.{model}
-use Rattle.book.proofs.OneProof.{sound_of, fits_of}
+use Rattle.book.specs.Answers.{Settles}
+use Rattle.book.specs.Tickets.{ReturnsAs}
+use Rattle.book.proofs.Tickets.{less_none, returns_done, return_lines}
 use Rattle.book.proofs.Settled.{settled_sound, stays_lawful}
-use Rattle.book.proofs.Tickets.{returns_refused, returns_done}
 use Rattle.book.proofs.keeping.Book.give_back.Goals as goal
 
-pub give_back-requires : goal.give_back-requires
-give_back-requires g c = record { sound = sound_of (model c.args.self.now.state) c.args.self.now.sound; fits = fits_of c.args.self.now.state c.args.self.now.fits }
-
-pub invariant_of-self : goal.invariant_of-self
-invariant_of-self g c =
-    let m = model c.args.self.now.state in
-    let u : Returning = record { series = c.args.ticket.series; id = c.args.ticket.id; executed = c.args.executed; tape = length c.args.tape.now; sheet = length c.args.sheet.now } in
+pub invariant_of-self-2 : goal.invariant_of-self-2
+invariant_of-self-2 g c =
+    let m = c.self.inside.state in
+    let u : Returning = record { series = c.args.ticket.series; id = c.args.ticket.id; executed = c.args.executed; tape = length c.args.tape.now - 0; sheet = length c.args.sheet.now } in
     let rule = g.R.Rule.meaning c.args.rule.now in
-    let sound = sound_of m c.args.self.now.sound in
-    record { sound = ∣ settled_sound (return_of rule u m) m c.give_back.result (model c.give_back.new.state) (λ d a. (a.lines ≡ d.answer) × (a.routed ≡ is_some d.ticket)) sound (kept.return rule u m sound) c.give_back.ensures.outcome ∣₁; fits = ∣ c.give_back.ensures.fits ∣₁ }
+    settled_sound {A = Unit {0}} (return_of rule u m) m c.give_back.result c.give_back.new.self (λ d a. Unit {0}) c.self.invariant (kept.return rule u m c.self.invariant) c.give_back.ensures.outcome
 
-pub returns-in-Err : goal.returns-in-Err
-returns-in-Err g c =
-    let m = model c.args.self.now.state in
-    let u : Returning = record { series = c.args.ticket.series; id = c.args.ticket.id; executed = c.args.executed; tape = length c.args.tape.now; sheet = length c.args.sheet.now } in
-    let rule = g.R.Rule.meaning c.args.rule.now in
-    let e = c.in-Err.ensures in
-    record {
-      outcome = returns_refused (return_of rule u m) m (model c.give_back.new.state) c.in-Err.refusal c.args.ticket (λ d a. (a.lines ≡ d.answer) × (a.routed ≡ is_some d.ticket)) e.outcome;
-      tape = e.tape;
-      sheet = e.sheet;
-      length = e.length;
-      lawful = λ keeps. stays_lawful m (returning (record { shares = rule; keeps = keeps }) u);
-    }
+pub returns-in-Err-clause-lawful : goal.returns-in-Err-clause-lawful
+returns-in-Err-clause-lawful g c = λ keeps. stays_lawful c.args.self.now (returning (record { shares = g.R.Rule.meaning c.args.rule.now; keeps = keeps }) (record { series = c.args.ticket.series; id = c.args.ticket.id; executed = c.args.executed; tape = length c.args.tape.now; sheet = length c.args.sheet.now }))
 
-pub returns-in-Ok : goal.returns-in-Ok
-returns-in-Ok g c =
-    let m = model c.args.self.now.state in
-    let u : Returning = record { series = c.args.ticket.series; id = c.args.ticket.id; executed = c.args.executed; tape = length c.args.tape.now; sheet = length c.args.sheet.now } in
+pub returns-clause-lawful : goal.returns-clause-lawful
+returns-clause-lawful g c = λ keeps. stays_lawful c.args.self.now (returning (record { shares = g.R.Rule.meaning c.args.rule.now; keeps = keeps }) (record { series = c.args.ticket.series; id = c.args.ticket.id; executed = c.args.executed; tape = length c.args.tape.now; sheet = length c.args.sheet.now }))
+
+pub returns-clause-outcome : goal.returns-clause-outcome
+returns-clause-outcome g c =
+    let u : Returning = record { series = c.args.ticket.series; id = c.args.ticket.id; executed = c.args.executed; tape = length c.args.tape.now - 0; sheet = length c.args.sheet.now } in
     let rule = g.R.Rule.meaning c.args.rule.now in
-    let e = c.in-Ok.ensures in
-    record {
-      outcome = returns_done (return_of rule u m) m (model c.give_back.new.state) c.args.ticket c.in-Ok.traded e.outcome;
-      tape = e.tape;
-      sheet = λ refused. absurd (true≢false refused);
-      length = e.length;
-      lawful = λ keeps. stays_lawful m (returning (record { shares = rule; keeps = keeps }) u);
-    }
+    subst (λ n. ReturnsAs (return_of rule (record u { tape = n }) c.args.self.now) c.args.self.now c.args.ticket (Ok c.give_back.new.lent.lines) c.give_back.new.self) (less_none (length c.args.tape.now))
+    (subst (λ x. ReturnsAs (return_of rule u x) x c.args.ticket (Ok c.give_back.new.lent.lines) c.give_back.new.self) c.self.view_is
+    (returns_done (return_of rule u c.self.inside.state) c.self.inside.state c.give_back.new.self c.args.ticket c.give_back.new.lent.lines (subst (λ r. Settles {A = Unit {0}} (return_of rule u c.self.inside.state) c.self.inside.state r c.give_back.new.self (λ d a. Unit {0})) c.in_default.is c.give_back.ensures.outcome) (λ d is. return_lines rule u c.self.inside.state _ _ c.give_back.ensures.tapes refl d is)))

@@ -1,7 +1,7 @@
 use Rattle.std.proofs.Common.{◌≡◌, min, get_or, sym, ap, ◌∙◌, arith}
 use Rattle.sharing.specs.Claims.{size_of}
 use Rattle.sharing.specs.Rules.{in_turn}
-use Rattle.sharing.specs.Allotted.{no_claim, allotted_none, unwritten, allotted_more, allotted_all, total_more}
+use Rattle.sharing.specs.Allotted.{no_claim, allotted_none, unwritten, allotted_more, total_more}
 use Rattle.sharing.specs.InTurn.{turn_at, length_turn}
 use Rattle.sharing.proofs.by_time.ByTimeRule.share.Goals as goal
 
@@ -15,12 +15,9 @@ loop-c-preserved c =
     let i = c.loop-c.c-index in
     let state = c.loop-c.invariant.1 in
     let long = length_turn c.args.amount cs in
-    let read = unwritten ns cs c.loop-c.claims i state c.loop-c-test.true long in
-    let value : c.min-n.result ≡ get_or ns i 0 =
-    c.min-n.ensures
+    let read = unwritten ns cs c.loop-c.c-items i state c.loop-c-test.true long in
+    let value : c.min-c.result ≡ get_or ns i 0 =
+    c.min-c.ensures
     ∙ (λ t. min (size_of (read t)) (c.loop-c.invariant.0 t))
     ∙ sym (turn_at c.args.amount cs i c.loop-c-test.true) in
-    (omega (arith, c.min-n.ensures, ap size_of read, total_more size_of cs i no_claim c.loop-c-test.true), allotted_more ns cs c.loop-c.claims i state c.loop-c-test.true long c.min-n.result value)
-
-pub returns : goal.returns
-returns c = c.loop-c.invariant.1 ∙ allotted_all (in_turn c.args.amount c.args.claims.now) c.args.claims.now c.loop-c.c-index c.loop-c-test.false
+    (omega (arith, c.min-c.ensures, ap size_of read, total_more size_of cs i no_claim c.loop-c-test.true), allotted_more ns cs c.loop-c.c-items i state c.loop-c-test.true long c.min-c.result value)

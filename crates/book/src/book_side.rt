@@ -1,0 +1,165 @@
+// One side of the book: its entries in rank, in places that the host lends, and the away price.
+ghost use Rattle.std.specs.Prelude.{◌≡◌, ◌+◌, ◌<◌, ◌≤◌, [], length, take, slice_index_or, slice_set, nat_le, None};
+ghost use Rattle.std.specs.List.{AllByRecursion, remove};
+ghost use Rattle.matching.specs.Tapes.{Writes};
+ghost use Rattle.matching.specs.Walks.{walked};
+ghost use Rattle.rules.specs.Laws.{Tradable};
+ghost use Rattle.rules.specs.Model as book;
+ghost use Rattle.rules.specs.Model.{ranked_in};
+ghost use Rattle.rules.specs.Ranks.{rank_of};
+ghost use Rattle.rules.specs.Walk.{runs};
+ghost use Rattle.book.specs.Sides.{nation, with_list};
+
+use matching::{Lent, Walked, walk};
+use ranked::RankedList;
+use rules::{Entry, Routed, Side};
+use sharing::Rule;
+use std::marker::Model;
+
+// A side knows which one it is: its ranking is that of the buyers or of the sellers.
+#[derive(Drop)]
+pub(crate) struct BookSide<'a> {
+    list: RankedList<'a, Entry, Side>,
+    away: Option<u32>,
+}
+
+impl<'a> Model for BookSide<'a> {
+    ghost use Rattle.std.specs.Prelude.{length};
+    ghost use Rattle.ranked.specs.Elements.{elements};
+    ghost use Rattle.book.specs.Sides.{OneSide};
+
+    ghost Value = { OneSide };
+
+    ghost use Rattle.book.specs.Orders.{Ordered};
+
+    ghost view = { λ s. record { side = s.list.ranking; entries = elements s.list; places = length s.list.places.now; away = s.away } };
+
+    ghost invariant = { Ordered };
+}
+
+impl<'a> BookSide<'a> {
+    // A side without entries or an away price.
+    pub(crate) fn new(side: Side, places: &'a mut [Entry]) -> Self
+        ensures { result ≡ record { side = side; entries = []; places = length places.old; away = None } }
+    {
+        let list = RankedList {
+            ranking: side,
+            places,
+            len: 0,
+        };
+        BookSide { list, away: None }
+    }
+}
+
+// An order of the other side walks over the first places.
+// Stays a function of places and a length: of part of a slice that a field refers to a proof knows the length alone once it is lent.
+fn walk_first<R: Rule>(
+    rule: &R,
+    order: &Routed,
+    national: Option<u32>,
+    away: Option<u32>,
+    places: &mut [Entry],
+    len: usize,
+    lent: &mut Lent<'_>,
+) -> Walked
+    requires within { len ≤ length places.old }
+    requires tradable { AllByRecursion (Tradable order.now.size) (runs (take len places.old)) }
+    requires sheet { len ≤ length lent.old.sheet.now }
+    requires tape { lent.old.lines + len ≤ length lent.old.tape.now }
+    ensures balance { result.balance ≡ (walked (R.meaning rule.now) order.now national away (take len places.old)).balance }
+    ensures left { result.left ≤ length places.new }
+    ensures entries { take result.left places.new ≡ (walked (R.meaning rule.now) order.now national away (take len places.old)).run }
+    ensures places { length places.new ≡ length places.old }
+    ensures writes { Writes (walked (R.meaning rule.now) order.now national away (take len places.old)).lines lent.old lent.new }
+{
+    walk(rule, order, national, away, &mut places[..len], lent)
+}
+
+impl BookSide<'_> {
+    pub(crate) fn entries(&self) -> &[Entry]
+        ensures { result.now ≡ self.now.entries }
+    {
+        &self.list.places[..self.list.len]
+    }
+
+    pub(crate) fn places(&self) -> usize
+        ensures { result ≡ self.now.places }
+    {
+        self.list.places.len()
+    }
+
+    // No place is left.
+    pub(crate) fn is_full(&self) -> bool
+        ensures { result ≡ nat_le self.now.places (length self.now.entries) }
+    {
+        self.list.places.len() <= self.list.len
+    }
+
+    pub(crate) fn away(&self) -> Option<u32>
+        ensures { result ≡ self.now.away }
+    {
+        self.away
+    }
+
+    // The price of the first entry.
+    pub(crate) fn best(&self) -> Option<u32>
+        ensures { result ≡ book.best self.now.entries }
+    {
+        self.entries().first().map(|e| e.price)
+    }
+
+    // The better of the first entry's price and the away price.
+    pub(crate) fn national_best(&self) -> Option<u32>
+        ensures { result ≡ nation self.now }
+    {
+        self.list.ranking.national_best(self.best(), self.away)
+    }
+
+    pub(crate) fn set_away(&mut self, price: Option<u32>)
+        ensures { self.new ≡ record { side = self.old.side; entries = self.old.entries; places = self.old.places; away = price } }
+    {
+        self.away = price;
+    }
+
+    // An entry comes to its place by rank.
+    pub(crate) fn insert(&mut self, e: Entry)
+        requires { length self.old.entries < self.old.places }
+        ensures { self.new ≡ with_list (ranked_in self.old.side e self.old.entries) self.old }
+    {
+        let _inserted = self.list.insert(e);
+    }
+
+    pub(crate) fn remove(&mut self, at: usize)
+        requires { at < length self.old.entries }
+        ensures { self.new ≡ with_list (remove self.old.entries at) self.old }
+    {
+        let _gone = self.list.remove(at);
+    }
+
+    // Another entry of the same rank stands in the place of one.
+    pub(crate) fn replace(&mut self, at: usize, e: Entry)
+        requires within { at < length self.old.entries }
+        requires rank { rank_of e ≡ rank_of (slice_index_or self.old.entries at e) }
+        ensures { self.new ≡ with_list (slice_set self.old.entries at e) self.old }
+    {
+        let places = &mut *self.list.places;
+        places[at] = e;
+    }
+
+    // An order of the other side trades with this one; answers its balance.
+    pub(crate) fn meet<R: Rule>(&mut self, rule: &R, order: &Routed, lent: &mut Lent<'_>) -> u32
+        requires tradable { AllByRecursion (Tradable order.now.size) (runs self.old.entries) }
+        requires sheet { length self.old.entries ≤ length lent.old.sheet.now }
+        requires tape { lent.old.lines + length self.old.entries ≤ length lent.old.tape.now }
+        ensures after { self.new ≡ with_list (walked (R.meaning rule.now) order.now (nation self.old) self.old.away self.old.entries).run self.old }
+        ensures balance { result ≡ (walked (R.meaning rule.now) order.now (nation self.old) self.old.away self.old.entries).balance }
+        ensures writes { Writes (walked (R.meaning rule.now) order.now (nation self.old) self.old.away self.old.entries).lines lent.old lent.new }
+    {
+        let national = self.national_best();
+        let away = self.away;
+        let len = self.list.len;
+        let walked = walk_first(rule, order, national, away, self.list.places, len, lent);
+        self.list.len = walked.left;
+        walked.balance
+    }
+}

@@ -1,0 +1,18 @@
+-- A deal at a price, as it stands in the places of a run and in what the host lends. Assumes nothing.
+use Rattle.std.specs.Prelude.{◌≡◌, ℕ, List, [], length}
+use Rattle.rules.specs.declared.terms.Entry.{Entry}
+use Rattle.rules.specs.Level.{Deal}
+use Rattle.matching.specs.declared.lent.Lent.{Lent}
+use Rattle.matching.specs.Parts.{live}
+use Rattle.matching.specs.Tapes.{Writes}
+
+-- a deal before its first line
+abbrev pub bare : ℕ → List Entry → Deal
+bare balance es = record { balance = balance; run = es; lines = [] }
+
+-- the balance, the entries that are still there and the lines written are those of a deal, and the run has as many places as before
+pub record Dealt (d : Deal) (run new_run : List Entry) (lent new_lent : Lent) (balance : ℕ) : Type 0 where
+  pub left : balance ≡ d.balance
+  pub entries : live new_run ≡ d.run
+  pub places : length new_run ≡ length run
+  pub writes : Writes d.lines lent new_lent

@@ -1,0 +1,27 @@
+// What the host lends for a call, and how lines are written to its tape.
+ghost use Rattle.std.specs.Prelude.{◌≡◌, ◌<◌, [], ◌∷◌, length};
+ghost use Rattle.matching.specs.Tapes.{Writes};
+
+use rules::Line;
+use sharing::Claim;
+
+// A claim sheet, and a tape of which the first lines are written.
+// Stays a slice with a count beside it: the core allocates nothing, and the tape is the host's own.
+#[derive(Drop)]
+pub struct Lent<'a> {
+    pub sheet: &'a mut [Claim],
+    pub tape: &'a mut [Line],
+    pub lines: usize,
+}
+
+impl Lent<'_> {
+    // The next line of the tape.
+    pub fn write(&mut self, line: Line)
+        requires room { self.old.lines < length self.old.tape.now }
+        ensures writes { Writes (line ∷ []) self.old self.new }
+        ensures claims { self.new.sheet.now ≡ self.old.sheet.now }
+    {
+        self.tape[self.lines] = line;
+        self.lines += 1;
+    }
+}
