@@ -38,32 +38,36 @@ pub refused_entry : (b : Bool) (o : Outcome) (why : Refusal) → cond b (Some An
 refused_entry true o why is = ap refused (the_same AnotherFirms why is)
 refused_entry false o why is = absurd (false≢true (ap is_some is))
 
+-- firm 0 is refused, and another firm is asked for more
+pub firm_zero : (n : ℕ) → n ≡ 0 → (o : Outcome) → cond (eqb n 0) (refused FirmZero) o ≡ refused FirmZero
+firm_zero n none o = cond-true (eqb n 0) (refused FirmZero) o (eq-eqb n 0 none)
+
+pub some_firm : (n : ℕ) → (n ≡ 0 → ⊥) → (o : Outcome) → cond (eqb n 0) (refused FirmZero) o ≡ o
+some_firm n firm o = cond-false (eqb n 0) (refused FirmZero) o (ne_eqb n 0 firm)
+
 module _ (c : Cancelling) (m : Model) where
   pub no_firm : c.firm ≡ 0 → cancel_of c m ≡ refused FirmZero
   unfolding cancel_of
   no_firm none = go (standing c.id m)
     where
       go : (s : Standing) → cancel_at c m s ≡ refused FirmZero
-      go nowhere = cond-true (eqb c.firm 0) (refused FirmZero) _ (eq-eqb c.firm 0 none)
-      go (out_on_route r) = cond-true (eqb c.firm 0) (refused FirmZero) _ (eq-eqb c.firm 0 none)
-      go (resting s e) = cond-true (eqb c.firm 0) (refused FirmZero) _ (eq-eqb c.firm 0 none)
+      go nowhere = firm_zero c.firm none _
+      go (out_on_route r) = firm_zero c.firm none _
+      go (resting s e) = firm_zero c.firm none _
 
   module _ (firm : c.firm ≡ 0 → ⊥) where
-    some_firm : (o : Outcome) → cond (eqb c.firm 0) (refused FirmZero) o ≡ o
-    some_firm o = cond-false (eqb c.firm 0) (refused FirmZero) o (ne_eqb c.firm 0 firm)
-
     pub not_cancelled : (why : Refusal) → not_its c.firm (standing c.id m) ≡ Some why → cancel_of c m ≡ refused why
     unfolding cancel_of
     not_cancelled why = go (standing c.id m)
       where
         go : (s : Standing) → not_its c.firm s ≡ Some why → cancel_at c m s ≡ refused why
-        go nowhere is = some_firm _ ∙ ap refused (the_same _ why is)
-        go (out_on_route r) is = some_firm _ ∙ refused_out (not (eqb r.firm c.firm)) why is
-        go (resting s e) is = some_firm _ ∙ refused_entry (not (eqb e.firm c.firm)) _ why is
+        go nowhere is = some_firm c.firm firm _ ∙ ap refused (the_same _ why is)
+        go (out_on_route r) is = some_firm c.firm firm _ ∙ refused_out (not (eqb r.firm c.firm)) why is
+        go (resting s e) is = some_firm c.firm firm _ ∙ refused_entry (not (eqb e.firm c.firm)) _ why is
 
     pub cancelled : (s : Side) (e : Entry) → standing c.id m ≡ resting s e → e.firm ≡ c.firm → cancel_of c m ≡ done (record { answer = e.size; lines = []; after = with_entries s (without_entry c.id (entries s m)) m; ticket = None })
     unfolding cancel_of
-    cancelled s e is own = ap (cancel_at c m) is ∙ some_firm _ ∙ cond-false (not (eqb e.firm c.firm)) (refused AnotherFirms) _ (not_from_true (eqb e.firm c.firm) (eq-eqb e.firm c.firm own))
+    cancelled s e is own = ap (cancel_at c m) is ∙ some_firm c.firm firm _ ∙ cond-false (not (eqb e.firm c.firm)) (refused AnotherFirms) _ (not_from_true (eqb e.firm c.firm) (eq-eqb e.firm c.firm own))
 
 -- in a sound book the entry at the place that was found is the one with the id
 pub without_found : (i firm : ℕ) (m : Model) (p : Own) → Sound m → Its i firm m p → remove (entries p.side m) p.at ≡ without_entry i (entries p.side m)

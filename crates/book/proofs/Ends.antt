@@ -1,7 +1,7 @@
 -- What an order that has traded comes to. Assumes nothing.
-use Rattle.std.proofs.Common.{◌≡◌, ℕ, ◌+◌, ◌<◌, ◌≤◌, Bool, true, false, cond, ◌&&◌, eqb, leb, [], ◌∷◌, ◌++◌, length, is_some, sym, refl, ap, ◌∙◌, subst, true≢false, arith}
+use Rattle.std.proofs.Common.{◌≡◌, ℕ, ◌+◌, ◌<◌, ◌≤◌, Bool, true, false, cond, ◌&&◌, eqb, leb, [], ◌∷◌, ◌++◌, length, is_some, sym, refl, ap, ◌∙◌, subst, arith}
 use Rattle.std.proofs.lemmas.List.{length_push}
-use Rattle.std.proofs.lemmas.Bool.{leb-false}
+use Rattle.std.proofs.lemmas.Bool.{false≢true, leb-false}
 use Rattle.sharing.specs.Sharing.{Sharing}
 use Rattle.rules.specs.declared.numbers.Cause.TheVariants.{Immediate, AwayPrice, NoPlaceOnReturn}
 use Rattle.rules.specs.declared.tape.Line.{Line}
@@ -34,28 +34,25 @@ stays rests = true
 abbrev first_of : Bool → Bool → Bool → Bool → Bool → Ending
 first_of spent near may ioc full = cond spent is_filled (cond (near && may) is_routed (cond ioc (is_cancelled Immediate) (cond near (is_cancelled AwayPrice) (cond full (is_cancelled NoPlaceOnReturn) rests))))
 
-never : {X : Type 0} → false ≡ true → X
-never h = absurd (true≢false (sym h))
-
 -- only an order that may go out does
 may_go : (spent near may ioc full : Bool) → routes (first_of spent near may ioc full) ≡ true → may ≡ true
-may_go true near may ioc full h = never h
+may_go true near may ioc full h = absurd (false≢true h)
 may_go false near true ioc full h = refl
-may_go false true false true full h = never h
-may_go false true false false full h = never h
-may_go false false false true full h = never h
-may_go false false false false true h = never h
-may_go false false false false false h = never h
+may_go false true false true full h = absurd (false≢true h)
+may_go false true false false full h = absurd (false≢true h)
+may_go false false false true full h = absurd (false≢true h)
+may_go false false false false true h = absurd (false≢true h)
+may_go false false false false false h = absurd (false≢true h)
 
 -- only an order for which there is a place rests
 has_place : (spent near may ioc full : Bool) → stays (first_of spent near may ioc full) ≡ true → full ≡ false
 has_place spent near may ioc false h = refl
-has_place true near may ioc true h = never h
-has_place false true true ioc true h = never h
-has_place false true false true true h = never h
-has_place false true false false true h = never h
-has_place false false may true true h = never h
-has_place false false may false true h = never h
+has_place true near may ioc true h = absurd (false≢true h)
+has_place false true true ioc true h = absurd (false≢true h)
+has_place false true false true true h = absurd (false≢true h)
+has_place false true false false true h = absurd (false≢true h)
+has_place false false may true true h = absurd (false≢true h)
+has_place false false may false true h = absurd (false≢true h)
 
 pub routed_may : (o : Routed) (may : Bool) (b : ℕ) (m : Model) (e : Ending) → e ≡ ending o may b m → e ≡ is_routed → may ≡ true
 unfolding ending
@@ -94,9 +91,6 @@ module _ (rule : Sharing) (o : Routed) (m : Model) where
 
   -- the book that the trades left
   module _ {m' : Model} (same : m' ≡ left) where
-    pub left_time : m'.counters.last_time ≡ m.counters.last_time
-    left_time = ap (λ k. k.counters.last_time) same ∙ ap (λ k. k.last_time) (same_book o.side deal.run m).3
-
     pub left_out : m'.out ≡ m.out
     left_out = ap (λ k. k.out) same ∙ (same_book o.side deal.run m).2
 

@@ -1,49 +1,18 @@
--- An entry that no check refuses: what it may ask of trading, and what it comes to. Assumes nothing.
-use Rattle.std.proofs.Common.{◌≡◌, ℕ, ◌+◌, ◌<◌, ◌≤◌, Bool, false, ltb, List, [], ◌∷◌, length, is_some, Some, unwrap_or, sym, refl, ap, ◌∙◌, ⊎_elim}
+-- The first check that fits refuses an entry; where none does it is carried out. Assumes nothing.
+use Rattle.std.proofs.Common.{Bool, Ok, Err, None, Option, subst, ◌≡◌, true, false, List, [], ◌∷◌, is_some, Some, unwrap_or, sym, refl, ap, ◌∙◌, ⊎_elim}
 use Rattle.std.specs.List.{AllByRecursion}
-use Rattle.std.proofs.lemmas.Bool.{false≢true, cases_Bool, cond-true, cond-false, lt-ltb, le-ltb, ltb-false}
+use Rattle.std.proofs.lemmas.Bool.{false≢true, cases_Bool, cond-true, cond-false}
 use Rattle.sharing.specs.Sharing.{Sharing}
 use Rattle.rules.specs.declared.numbers.Refusal.{Refusal}
-use Rattle.rules.specs.declared.terms.Routed.{Routed}
-use Rattle.rules.specs.Calls.{Entering, reference, entry_checks, setting_out, capped, least_missed, missed, entry_of}
-use Rattle.rules.specs.Caps.{cap_of}
-use Rattle.rules.specs.Model.{Model, entries, away, with_last_id}
-use Rattle.rules.specs.Outcome.{Outcome, Check, checked, longer_side}
+use Rattle.rules.specs.Calls.{Entering, entry_checks, entry_of}
+use Rattle.rules.specs.Model.{Model}
+use Rattle.rules.specs.Outcome.{Outcome, Check, checked}
 use Rattle.rules.specs.Outcome.Outcome.{refused, done}
-use Rattle.rules.specs.Sides.{other_side}
-use Rattle.rules.specs.Trade.{finished, trade}
-use Rattle.rules.specs.Walk.{available}
-use Rattle.book.specs.Entries.{carried}
+use Rattle.matching.specs.Tapes.{Writes}
+use Rattle.matching.specs.declared.lent.Lent.{Lent}
+use Rattle.book.specs.Answers.{Settles}
+use Rattle.book.specs.Entries.{carried, Tapes}
 use Rattle.book.specs.Refusals.{first_refusal}
-
--- an order that trades answers how many lines it has
-pub trade_answer : (rule : Sharing) (o : Routed) (may : Bool) (m : Model) → length (trade rule o may m).lines ≡ (trade rule o may m).answer
-unfolding trade finished
-trade_answer rule o may m = refl
-
-module _ (c : Entering) (m : Model) (all : AllByRecursion (λ k. k.0 ≡ false) (entry_checks c m)) where
-  pub tape_room : longer_side m + 1 ≤ c.tape
-  tape_room = ltb-false c.tape (longer_side m + 1) all.0
-
-  pub sheet_room : longer_side m ≤ c.sheet
-  sheet_room = ltb-false c.sheet (longer_side m) all.1.0
-
-module _ (rule : Sharing) (c : Entering) (m : Model) (going : Routed) (cap room : ℕ)
-    (capped_as : cap ≡ unwrap_or (cap_of c.order m.opening.tick (reference c.order m)) 0) (goes_as : going ≡ setting_out c.order cap)
-    (room_as : room ≡ available going (away (other_side going.side) m) (entries (other_side going.side) m)) where
-  pub going_is : going ≡ capped c.order m
-  going_is = goes_as ∙ ap (setting_out c.order) capped_as
-
-  missed_as : least_missed c.order m ≡ ltb room c.order.least
-  missed_as = ap (λ n. ltb n c.order.least) (sym (room_as ∙ ap (λ (o : Routed). available o (away (other_side o.side) m) (entries (other_side o.side) m)) going_is))
-
-  pub carried_missed : room < c.order.least → carried rule c.order m ≡ missed c.order (with_last_id c.order.id m)
-  carried_missed short = cond-true (least_missed c.order m) (missed c.order (with_last_id c.order.id m)) (trade rule (capped c.order m) c.order.may_route (with_last_id c.order.id m)) (missed_as ∙ lt-ltb room c.order.least short)
-
-  pub carried_trade : c.order.least ≤ room → carried rule c.order m ≡ trade rule going c.order.may_route (with_last_id c.order.id m)
-  carried_trade enough =
-      cond-false (least_missed c.order m) (missed c.order (with_last_id c.order.id m)) (trade rule (capped c.order m) c.order.may_route (with_last_id c.order.id m)) (missed_as ∙ le-ltb room c.order.least enough)
-      ∙ ap (λ o. trade rule o c.order.may_route (with_last_id c.order.id m)) (sym going_is)
 
 -- a call is refused by the first check that fits, or by none
 pub first_some : (cs : List Check) (o : Outcome) (why : Refusal) → first_refusal cs ≡ Some why → checked cs o ≡ refused why
@@ -62,6 +31,24 @@ pub entry_refused : (rule : Sharing) (c : Entering) (m : Model) (why : Refusal) 
 unfolding entry_of
 entry_refused rule c m why is = first_some (entry_checks c m) (done (carried rule c.order m)) why is
 
+-- a refused entry settles as refused, and leaves what was lent
+pub refused_settles : (rule : Sharing) (c : Entering) (m : Model) (why : Refusal) → first_refusal (entry_checks c m) ≡ Some why → Settles {A = Bool} (entry_of rule c m) m (Err why) m (λ d routed. routed ≡ is_some d.ticket)
+refused_settles rule c m why is = subst (λ o. Settles {A = Bool} o m (Err why) m (λ d routed. routed ≡ is_some d.ticket)) (sym (entry_refused rule c m why is)) (refl, refl)
+
+pub refused_tapes : (rule : Sharing) (c : Entering) (m : Model) (l : Lent) → is_some (first_refusal (entry_checks c m)) ≡ true → Tapes (entry_of rule c m) l l
+refused_tapes rule c m l = go (first_refusal (entry_checks c m)) refl
+  where
+    go : (o : Option Refusal) → first_refusal (entry_checks c m) ≡ o → is_some o ≡ true → Tapes (entry_of rule c m) l l
+    go None first is = absurd (false≢true is)
+    go (Some why) first is = subst (λ x. Tapes x l l) (sym (entry_refused rule c m why first)) refl
+
 pub entry_done : (rule : Sharing) (c : Entering) (m : Model) → AllByRecursion (λ k. k.0 ≡ false) (entry_checks c m) → entry_of rule c m ≡ done (carried rule c.order m)
 unfolding entry_of
 entry_done rule c m all = none_fits (entry_checks c m) (done (carried rule c.order m)) all
+
+-- an entry that no check refuses settles as it is carried out
+pub done_settles : (rule : Sharing) (c : Entering) (m n : Model) (routed : Bool) → AllByRecursion (λ k. k.0 ≡ false) (entry_checks c m) → n ≡ (carried rule c.order m).after → routed ≡ is_some (carried rule c.order m).ticket → Settles {A = Bool} (entry_of rule c m) m (Ok routed) n (λ d r. r ≡ is_some d.ticket)
+done_settles rule c m n routed all after went = subst (λ o. Settles {A = Bool} o m (Ok routed) n (λ d r. r ≡ is_some d.ticket)) (sym (entry_done rule c m all)) (after, went)
+
+pub done_tapes : (rule : Sharing) (c : Entering) (m : Model) (old new : Lent) → AllByRecursion (λ k. k.0 ≡ false) (entry_checks c m) → Writes (carried rule c.order m).lines old new → Tapes (entry_of rule c m) old new
+done_tapes rule c m old new all writes = subst (λ o. Tapes o old new) (sym (entry_done rule c m all)) writes

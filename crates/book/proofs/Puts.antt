@@ -12,7 +12,7 @@ use Rattle.rules.specs.Ranks.{rank_of, rank_before}
 use Rattle.rules.specs.Laws.{LeftOf}
 use Rattle.rules.specs.Laws.LeftOf.{none, gone, same, fewer}
 use Rattle.rules.proofs.LeftOver.{all_left_of}
-use Rattle.book.specs.Orders.{InOrder}
+use Rattle.book.specs.Ordering.{InOrder}
 
 -- entries that are left stay in order
 pub left_in_order : (s : Side) {es fs : List Entry} → LeftOf es fs → InOrder s es → InOrder s fs

@@ -1,8 +1,7 @@
 -- What a size change comes to, by where the order is. Assumes nothing.
-use Rattle.std.proofs.Common.{◌≡◌, ℕ, zero, suc, ◌+◌, ◌<◌, ◌≤◌, true, false, cond, not, ◌&&◌, eqb, ltb, List, [], ◌∷◌, length, get_or, set, Some, None, Ok, sym, refl, ap, ◌∙◌, subst, ⊎_elim, arith}
+use Rattle.std.proofs.Common.{◌≡◌, ℕ, zero, suc, ◌+◌, ◌<◌, ◌≤◌, true, false, cond, not, ◌&&◌, eqb, ltb, List, [], ◌∷◌, length, get_or, set, Some, None, Ok, sym, refl, ap, ◌∙◌, ⊎_elim, arith}
 use Rattle.std.specs.List.{remove}
-use Rattle.std.proofs.lemmas.List.Edits.{length-remove}
-use Rattle.std.proofs.lemmas.Bool.{cases_Bool, cond-true, cond-false, eq-eqb, ne_eqb, lt-ltb, le-ltb, and_from, and_left, and_right, not_from_true, not_from_false}
+use Rattle.std.proofs.lemmas.Bool.{cases_Bool, cond-true, cond-false, eq-eqb, lt-ltb, le-ltb, and_from, and_left, and_right, not_from_true, not_from_false}
 use Rattle.sharing.specs.Totals.{one_if, count}
 use Rattle.rules.specs.declared.numbers.Refusal.{Refusal}
 use Rattle.rules.specs.declared.numbers.Refusal.TheVariants.{FirmZero, BadSize, AnotherFirms, LastTimeReached}
@@ -10,19 +9,19 @@ use Rattle.rules.specs.declared.terms.Entry.{Entry}
 use Rattle.rules.specs.declared.terms.Side.{Side}
 use Rattle.rules.specs.Calls.{Resizing, resize_at, resize_of, after_resize, without_entry, enlarged, reduced_in}
 use Rattle.rules.specs.Level.{resized}
-use Rattle.rules.specs.Model.{Model, entries, places, with_entries, with_last_time, ranked_in}
+use Rattle.rules.specs.Model.{Model, entries, with_entries, with_last_time, ranked_in}
 use Rattle.rules.specs.Outcome.{Outcome, Standing, standing}
 use Rattle.rules.specs.Outcome.Outcome.{refused, done}
 use Rattle.rules.specs.Outcome.Standing.{resting, out_on_route, nowhere}
 use Rattle.rules.specs.Prices.{is_size}
 use Rattle.rules.specs.Sound.{Sound}
 use Rattle.rules.proofs.CallsKeep.{reduced_none, side_once}
-use Rattle.rules.proofs.Moves.{has_id, good_side}
+use Rattle.rules.proofs.Moves.{has_id}
 use Rattle.book.specs.Answers.{Settles}
 use Rattle.book.specs.Standings.{not_its, Its}
 use Rattle.book.specs.declared.find.Own.{Own}
-use Rattle.book.proofs.Cancelled.{answers, the_same, refused_out, refused_entry, without_found}
-use Rattle.book.proofs.Edited.{entries_with, places_with, with_again}
+use Rattle.book.proofs.Cancelled.{answers, firm_zero, some_firm, the_same, refused_out, refused_entry, without_found}
+use Rattle.book.proofs.Edited.{entries_with, with_again}
 use Rattle.book.proofs.Finding.{counted_at}
 use Rattle.book.proofs.Standings.{no_entry}
 
@@ -32,26 +31,23 @@ module _ (c : Resizing) (m : Model) where
   no_firm none = go (standing c.id m)
     where
       go : (s : Standing) → resize_at c m s ≡ refused FirmZero
-      go nowhere = cond-true (eqb c.firm 0) (refused FirmZero) _ (eq-eqb c.firm 0 none)
-      go (out_on_route r) = cond-true (eqb c.firm 0) (refused FirmZero) _ (eq-eqb c.firm 0 none)
-      go (resting s e) = cond-true (eqb c.firm 0) (refused FirmZero) _ (eq-eqb c.firm 0 none)
+      go nowhere = firm_zero c.firm none _
+      go (out_on_route r) = firm_zero c.firm none _
+      go (resting s e) = firm_zero c.firm none _
 
   module _ (firm : c.firm ≡ 0 → ⊥) where
-    some_firm : (o : Outcome) → cond (eqb c.firm 0) (refused FirmZero) o ≡ o
-    some_firm o = cond-false (eqb c.firm 0) (refused FirmZero) o (ne_eqb c.firm 0 firm)
-
     pub no_size : is_size c.size ≡ false → resize_of c m ≡ refused BadSize
     unfolding resize_of
     no_size bad = go (standing c.id m)
       where
         go : (s : Standing) → resize_at c m s ≡ refused BadSize
-        go nowhere = some_firm _ ∙ cond-true (not (is_size c.size)) (refused BadSize) _ (not_from_false (is_size c.size) bad)
-        go (out_on_route r) = some_firm _ ∙ cond-true (not (is_size c.size)) (refused BadSize) _ (not_from_false (is_size c.size) bad)
-        go (resting s e) = some_firm _ ∙ cond-true (not (is_size c.size)) (refused BadSize) _ (not_from_false (is_size c.size) bad)
+        go nowhere = some_firm c.firm firm _ ∙ cond-true (not (is_size c.size)) (refused BadSize) _ (not_from_false (is_size c.size) bad)
+        go (out_on_route r) = some_firm c.firm firm _ ∙ cond-true (not (is_size c.size)) (refused BadSize) _ (not_from_false (is_size c.size) bad)
+        go (resting s e) = some_firm c.firm firm _ ∙ cond-true (not (is_size c.size)) (refused BadSize) _ (not_from_false (is_size c.size) bad)
 
     module _ (size : is_size c.size ≡ true) where
       some_size : (o : Outcome) → cond (eqb c.firm 0) (refused FirmZero) (cond (not (is_size c.size)) (refused BadSize) o) ≡ o
-      some_size o = some_firm _ ∙ cond-false (not (is_size c.size)) (refused BadSize) o (not_from_true (is_size c.size) size)
+      some_size o = some_firm c.firm firm _ ∙ cond-false (not (is_size c.size)) (refused BadSize) o (not_from_true (is_size c.size) size)
 
       pub not_resized : (why : Refusal) → not_its c.firm (standing c.id m) ≡ Some why → resize_of c m ≡ refused why
       unfolding resize_of
@@ -67,8 +63,8 @@ module _ (c : Resizing) (m : Model) where
         unfolding resize_of
         as_own = ap (resize_at c m) stands ∙ some_size _ ∙ cond-false (not (eqb e.firm c.firm)) (refused AnotherFirms) _ (not_from_true (eqb e.firm c.firm) (eq-eqb e.firm c.firm own))
 
-        pub no_time : e.size < c.size → 4000000000 < m.counters.last_time → resize_of c m ≡ refused LastTimeReached
-        no_time larger last = as_own ∙ cond-true (ltb e.size c.size && ltb 4000000000 m.counters.last_time) (refused LastTimeReached) _ (and_from (ltb e.size c.size) (ltb 4000000000 m.counters.last_time) (lt-ltb e.size c.size larger) (lt-ltb 4000000000 m.counters.last_time last))
+        pub no_time : e.size < c.size → ltb 4000000000 m.counters.last_time ≡ true → resize_of c m ≡ refused LastTimeReached
+        no_time larger last = as_own ∙ cond-true (ltb e.size c.size && ltb 4000000000 m.counters.last_time) (refused LastTimeReached) _ (and_from (ltb e.size c.size) (ltb 4000000000 m.counters.last_time) (lt-ltb e.size c.size larger) last)
 
         pub made_smaller : c.size ≤ e.size → resize_of c m ≡ done (record { answer = c.size; lines = []; after = with_entries s (reduced_in c.id c.size (entries s m)) m; ticket = None })
         made_smaller le =
@@ -76,10 +72,10 @@ module _ (c : Resizing) (m : Model) where
             as_own ∙ cond-false (ltb e.size c.size && ltb 4000000000 m.counters.last_time) (refused LastTimeReached) _ (and_left (ltb e.size c.size) (ltb 4000000000 m.counters.last_time) small)
             ∙ ap (λ (n : Model). done (record { answer = c.size; lines = []; after = n; ticket = None })) (cond-false (ltb e.size c.size) _ _ small)
 
-        pub made_larger : e.size < c.size → m.counters.last_time ≤ 4000000000 → resize_of c m ≡ done (record { answer = c.size; lines = []; after = with_last_time (m.counters.last_time + 1) (with_entries s (ranked_in s (enlarged c.size (m.counters.last_time + 1) e) (without_entry c.id (entries s m))) m); ticket = None })
+        pub made_larger : e.size < c.size → ltb 4000000000 m.counters.last_time ≡ false → resize_of c m ≡ done (record { answer = c.size; lines = []; after = with_last_time (m.counters.last_time + 1) (with_entries s (ranked_in s (enlarged c.size (m.counters.last_time + 1) e) (without_entry c.id (entries s m))) m); ticket = None })
         made_larger lt early =
             let large = lt-ltb e.size c.size lt in
-            as_own ∙ cond-false (ltb e.size c.size && ltb 4000000000 m.counters.last_time) (refused LastTimeReached) _ (and_right (ltb e.size c.size) (ltb 4000000000 m.counters.last_time) (le-ltb 4000000000 m.counters.last_time early))
+            as_own ∙ cond-false (ltb e.size c.size && ltb 4000000000 m.counters.last_time) (refused LastTimeReached) _ (and_right (ltb e.size c.size) (ltb 4000000000 m.counters.last_time) early)
             ∙ ap (λ (n : Model). done (record { answer = c.size; lines = []; after = n; ticket = None })) (cond-true (ltb e.size c.size) _ _ large)
 
 -- the entry at its place with another size
@@ -103,13 +99,6 @@ reduced_there i firm n m p sound its =
 
 -- without its entry a side has a place
 module _ (i firm : ℕ) (m n : Model) (p : Own) (sound : Sound m) (its : Its i firm m p) (is : n ≡ with_entries p.side (remove (entries p.side m) p.at) m) where
-  pub has_room : length (entries p.side n) < places p.side n
-  has_room =
-      let s = p.side in
-      let es = remove (entries s m) p.at in
-      subst (λ x. length (entries s x) < places s x) (sym is)
-      (omega (arith, ap length (entries_with s es m), places_with s es m, length-remove (entries s m) p.at its.within, (good_side s m sound).few))
-
   pub rests_again : (e : Entry) → with_last_time e.time (with_entries p.side (ranked_in p.side e (entries p.side n)) n) ≡ with_last_time e.time (with_entries p.side (ranked_in p.side e (without_entry i (entries p.side m))) m)
   rests_again e =
       let s = p.side in
@@ -125,7 +114,7 @@ module _ (c : Resizing) (m n : Model) (p : Own) (firm : c.firm ≡ 0 → ⊥) (s
       answers (resize_of c m) (record { answer = c.size; lines = []; after = with_entries p.side (reduced_in c.id c.size (entries p.side m)) m; ticket = None }) m n c.size (made_smaller c m firm size p.side p.entry its.stands its.firm_is le) (is ∙ set_there) refl
 
   -- o is the book without the entry
-  pub settles_larger : (o : Model) → p.entry.size < c.size → m.counters.last_time ≤ 4000000000 → o ≡ with_entries p.side (remove (entries p.side m) p.at) m → n ≡ with_last_time (m.counters.last_time + 1) (with_entries p.side (ranked_in p.side (enlarged c.size (m.counters.last_time + 1) p.entry) (entries p.side o)) o) → Settles {A = ℕ} (resize_of c m) m (Ok c.size) n (λ d a. a ≡ d.answer)
+  pub settles_larger : (o : Model) → p.entry.size < c.size → ltb 4000000000 m.counters.last_time ≡ false → o ≡ with_entries p.side (remove (entries p.side m) p.at) m → n ≡ with_last_time (m.counters.last_time + 1) (with_entries p.side (ranked_in p.side (enlarged c.size (m.counters.last_time + 1) p.entry) (entries p.side o)) o) → Settles {A = ℕ} (resize_of c m) m (Ok c.size) n (λ d a. a ≡ d.answer)
   settles_larger o lt early gone is =
       let e = enlarged c.size (m.counters.last_time + 1) p.entry in
       let again = rests_again c.id c.firm m o p sound its gone e in

@@ -1,7 +1,7 @@
 -- A return: what it comes to, and the book that its row has left. Assumes nothing.
 use Rattle.std.proofs.Common.{◌≡◌, ℕ, ◌+◌, ◌-◌, ◌<◌, ◌≤◌, Bool, true, false, cond, not, eqb, ltb, List, [], ◌∷◌, get_or, Some, None, Ok, Option, sym, ap, ◌∙◌, subst, arith}
 use Rattle.std.specs.List.{remove, AllByRecursion}
-use Rattle.std.proofs.lemmas.Bool.{cond-true, cond-false, not_from_true, not_from_false, eq-eqb, ne_eqb, lt-ltb, le-ltb, ltb-false}
+use Rattle.std.proofs.lemmas.Bool.{cond-true, cond-false, not_from_true, not_from_false, eq-eqb, ne_eqb, lt-ltb, le-ltb}
 use Rattle.std.proofs.lemmas.Option.{none-some}
 use Rattle.sharing.specs.Sharing.{Sharing}
 use Rattle.rules.specs.declared.numbers.Refusal.{Refusal}
@@ -11,9 +11,9 @@ use Rattle.rules.specs.Calls.{Returning, without_row, return_checks, returned, r
 use Rattle.rules.specs.Model.{Model, with_out}
 use Rattle.rules.specs.Outcome.{Outcome, Check, checked, lent_checks, longer_side, row_with}
 use Rattle.rules.specs.Outcome.Outcome.{refused, done}
-use Rattle.rules.specs.Sound.{Sound, GoodRow}
+use Rattle.rules.specs.Sound.{Sound}
 use Rattle.rules.specs.Trade.{sized, trade}
-use Rattle.rules.proofs.CallsKeep.{found_all, found_id}
+use Rattle.rules.proofs.CallsKeep.{found_id}
 use Rattle.rules.proofs.Moves.{given_back}
 use Rattle.book.specs.Returns.{Comes}
 use Rattle.book.specs.Refusals.{first_refusal}
@@ -79,18 +79,6 @@ module _ (c : Returning) (m : Model) (k : ℕ) (comes : Comes c m (Ok k)) where
 
   pub row_is : the_row.id ≡ c.id
   row_is = found_id (λ (r : Routed). r.id) c.id m.out the_row row_found
-
-  pub row_good : Sound m → GoodRow m.opening.tick m.counters the_row
-  row_good sound = found_all (λ (r : Routed). r.id) c.id (GoodRow m.opening.tick m.counters) m.out the_row row_found sound.out
-
-  pub enough : c.executed ≤ the_row.size
-  enough = ltb-false the_row.size c.executed (comes.1 no_row).1.1.1.1.0
-
-  pub tape_lent : longer_side m + 1 ≤ c.tape
-  tape_lent = ltb-false c.tape (longer_side m + 1) (comes.1 no_row).1.0
-
-  pub sheet_lent : longer_side m ≤ c.sheet
-  sheet_lent = ltb-false c.sheet (longer_side m) (comes.1 no_row).1.1.0
 
 -- the book that its row has left
 module _ (c : Returning) (m : Model) (k : ℕ) (sound : Sound m) (comes : Comes c m (Ok k)) where

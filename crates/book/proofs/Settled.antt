@@ -1,11 +1,9 @@
 -- What a call that answers its outcome leaves: a sound book, and lawful histories. Assumes nothing.
-use Rattle.std.proofs.Common.{◌≡◌, ℕ, ◌<◌, true, Ok, Err, Result, sym, subst, arith}
-use Rattle.std.proofs.lemmas.Bool.Decides.{nat_tests}
+use Rattle.std.proofs.Common.{Ok, Err, Result, sym, subst}
 use Rattle.rules.specs.declared.numbers.Refusal.{Refusal}
 use Rattle.rules.specs.Model.{Model}
 use Rattle.rules.specs.Outcome.{Done, Outcome}
 use Rattle.rules.specs.Outcome.Outcome.{refused, done}
-use Rattle.rules.specs.Prices.{is_tick}
 use Rattle.rules.specs.Sound.{Sound, Keeps}
 use Rattle.laws.specs.Histories.{Call, longer}
 use Rattle.laws.specs.Lawful.{StaysLawful}
@@ -20,7 +18,3 @@ settled_sound (done d) m (Ok a) after Fits sound keeps settles = subst Sound (sy
 
 pub stays_lawful : (m : Model) (k : Call) → StaysLawful m k
 stays_lawful m k h reached = every_history (longer k h)
-
--- a tick is above 0
-pub tick_some : (t : ℕ) → is_tick t ≡ true → 0 < t
-tick_some t h = grind (arith, nat_tests)

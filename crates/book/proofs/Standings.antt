@@ -1,21 +1,16 @@
 -- Where an order is, from what is found on each side and among the orders out. Assumes nothing.
-use Rattle.std.proofs.Common.{◌≡◌, ℕ, false, not, eqb, List, get_or, Some, None, Option, sym, ap, ◌∙◌}
+use Rattle.std.proofs.Common.{◌≡◌, ℕ, Bool, false, eqb, List, get_or, Some, None, Option, sym, ap, ◌∙◌}
 use Rattle.std.specs.List.{position}
-use Rattle.std.proofs.lemmas.List.{get_or_read}
-use Rattle.std.proofs.lemmas.Bool.{cond-true, cond-false, eq-eqb, ne_eqb, not_from_true, not_from_false}
-use Rattle.rules.specs.declared.numbers.Refusal.TheVariants.{AnotherFirms, OutOnRoute}
 use Rattle.rules.specs.declared.terms.Entry.{Entry}
 use Rattle.rules.specs.declared.terms.Kind.TheVariants.{Customer}
 use Rattle.rules.specs.declared.terms.Routed.{Routed}
-use Rattle.rules.specs.declared.terms.Side.{Side}
 use Rattle.rules.specs.declared.terms.Side.TheVariants.{Buy, Sell}
 use Rattle.rules.specs.declared.terms.Term.TheVariants.{Day}
-use Rattle.rules.specs.Model.{Model, entries}
-use Rattle.rules.specs.Outcome.{entry_with, row_with, standing_by, standing}
-use Rattle.rules.specs.Outcome.Standing.{resting, out_on_route}
+use Rattle.rules.specs.Model.{Model}
+use Rattle.rules.specs.Outcome.{entry_with, row_with, standing_by}
 use Rattle.rules.proofs.CallsKeep.{found_id}
 use Rattle.book.specs.declared.find.Standing.TheVariants.{Resting, Out}
-use Rattle.book.specs.Standings.{Stands, not_its, Its}
+use Rattle.book.specs.Standings.{Stands}
 use Rattle.book.proofs.Finding.{found_at, not_found}
 
 -- what stands where nothing does
@@ -24,6 +19,10 @@ no_entry = record { id = 0; firm = 0; kind = Customer; market = false; price = 0
 
 abbrev pub no_row : Routed
 no_row = record { id = 0; firm = 0; kind = Customer; side = Buy; term = Day; market = false; cap = 0; size = 0; directed = None; own_firm_mark = false }
+
+-- what was found in a list is found in what the list is equal to
+pub seen : {X : Type 0} (has : X → Bool) (r o : Option ℕ) {xs ys zs : List X} → r ≡ position has xs → xs ≡ ys → ys ≡ zs → r ≡ o → position has zs ≡ o
+seen has r o searched first then is = sym (searched ∙ ap (position has) (first ∙ then)) ∙ is
 
 -- what is found on each side and among the orders out
 module _ (i : ℕ) (m : Model) where
@@ -58,21 +57,3 @@ module _ (i : ℕ) (m : Model) where
         let neither = not_found (λ e. e.id) i m.offers no_offer in
         let out = not_found (λ r. r.id) i m.out is in
         λ t. standing_by (none t) (neither t) (out t)
-
--- the order is another firm's, or this one's
-module _ (i firm : ℕ) (m : Model) where
-  pub anothers_out : (r : Routed) → standing i m ≡ out_on_route r → (r.firm ≡ firm → ⊥) → not_its firm (standing i m) ≡ Some AnotherFirms
-  anothers_out r is other = ap (not_its firm) is ∙ ap (λ w. Some w) (cond-true (not (eqb r.firm firm)) AnotherFirms OutOnRoute (not_from_false (eqb r.firm firm) (ne_eqb r.firm firm other)))
-
-  pub own_out : (r : Routed) → standing i m ≡ out_on_route r → r.firm ≡ firm → not_its firm (standing i m) ≡ Some OutOnRoute
-  own_out r is own = ap (not_its firm) is ∙ ap (λ w. Some w) (cond-false (not (eqb r.firm firm)) AnotherFirms OutOnRoute (not_from_true (eqb r.firm firm) (eq-eqb r.firm firm own)))
-
-  module _ (s : Side) (k : ℕ) (e : Entry) (there : Stands i m (Some (Resting s k))) (read : e ≡ get_or (entries s m) k e) where
-    found_there : standing i m ≡ resting s e
-    found_there = (there.1 e).1 ∙ ap (resting s) (sym read)
-
-    pub anothers_entry : (e.firm ≡ firm → ⊥) → not_its firm (standing i m) ≡ Some AnotherFirms
-    anothers_entry other = ap (not_its firm) found_there ∙ cond-true (not (eqb e.firm firm)) (Some AnotherFirms) None (not_from_false (eqb e.firm firm) (ne_eqb e.firm firm other))
-
-    pub its_entry : e.firm ≡ firm → Its i firm m (record { side = s; at = k; entry = e })
-    its_entry own = record { within = there.0; entry = get_or_read (entries s m) k e there.0 read; id = ap (λ (x : Entry). x.id) read ∙ (there.1 e).0; firm_is = own; stands = found_there }

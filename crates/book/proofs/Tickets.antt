@@ -1,8 +1,7 @@
 -- Answers put in other words, and the ticket of an entry. Assumes nothing.
-use Rattle.std.proofs.Common.{◌≡◌, ℕ, ◌-◌, Bool, false, cond, [], length, is_some, Some, None, Ok, Err, Option, sym, refl, ap, ◌∙◌, subst, arith}
+use Rattle.std.proofs.Common.{◌≡◌, ℕ, ◌-◌, Bool, false, cond, [], length, is_some, Some, None, Ok, Option, sym, refl, ap, ◌∙◌, subst, arith}
 use Rattle.std.proofs.lemmas.Bool.{cond_both}
 use Rattle.sharing.specs.Sharing.{Sharing}
-use Rattle.rules.specs.declared.numbers.Refusal.{Refusal}
 use Rattle.rules.specs.declared.numbers.Refusal.TheVariants.{NotOutHere}
 use Rattle.rules.specs.declared.terms.Routed.{Routed}
 use Rattle.rules.specs.Calls.{Entering, entry_checks, capped, least_missed, missed, entry_of, Returning, without_row, return_checks, returned, return_of}
@@ -23,9 +22,6 @@ pub less_none : (n : ℕ) → n - 0 ≡ n
 less_none n = omega arith
 
 -- a refusal is one whatever would be answered else
-pub settles_refused : {A B : Type 0} (out : Outcome) (m after : Model) (e : Refusal) (P : Done → A → Type 0) (Q : Done → B → Type 0) → Settles {A = A} out m (Err e) after P → Settles {A = B} out m (Err e) after Q
-settles_refused (refused why) m after e P Q s = s
-settles_refused (done d) m after e P Q s = absurd s
 
 -- an answer in other words
 pub settles_other : {A B : Type 0} (out : Outcome) (m after : Model) (a : A) (b : B) (P : Done → A → Type 0) (Q : Done → B → Type 0) → ((d : Done) → out ≡ done d → P d a → Q d b) → Settles {A = A} out m (Ok a) after P → Settles {A = B} out m (Ok b) after Q
@@ -68,9 +64,6 @@ entry_gives rule c m d is routed went series t gives =
     subst (λ x. Gives series x t) (ap (λ b. cond b (Some c.order.id) None) went ∙ told_by c.order.id d.ticket (subst (OwnIn c.order.id) is (entry_own rule c m))) gives
 
 -- a return in the words of its ticket
-pub returns_refused : (out : Outcome) (m after : Model) (e : Refusal) (t : Ticket) → Settles {A = Unit {0}} out m (Err e) after (λ d a. Unit {0}) → ReturnsAs out m t (Err (record { refusal = e; ticket = t })) after
-returns_refused (refused why) m after e t s = (s.0, refl, s.1)
-returns_refused (done d) m after e t s = absurd s
 
 pub returns_done : (out : Outcome) (m after : Model) (t : Ticket) (n : ℕ) → Settles {A = Unit {0}} out m (Ok tt) after (λ d a. Unit {0}) → ((d : Done) → out ≡ done d → n ≡ d.answer) → ReturnsAs out m t (Ok n) after
 returns_done (refused why) m after t n s told = absurd s

@@ -1,6 +1,7 @@
 -- What an entry does that no check refuses, and what a call writes. Assumes nothing.
 use Rattle.std.specs.Prelude.{◌≡◌, ◌-◌, cond, List, length}
 use Rattle.sharing.specs.Sharing.{Sharing}
+use Rattle.sharing.specs.declared.claims.Claim.{Claim}
 use Rattle.rules.specs.declared.tape.Line.{Line}
 use Rattle.rules.specs.declared.terms.Order.{Order}
 use Rattle.rules.specs.Calls.{Entering, capped, least_missed, missed}
@@ -11,7 +12,11 @@ use Rattle.rules.specs.Trade.{trade}
 use Rattle.matching.specs.Tapes.{written, Writes}
 use Rattle.matching.specs.declared.lent.Lent.{Lent}
 
--- an entry of an order, with the places that are left on the tape and those of the claim sheet
+-- an entry as it is called: an order, and the tape and the claim sheet that the host lends
+abbrev pub entry_call : Order → List Line → List Claim → Entering
+entry_call o tape sheet = record { order = o; tape = length tape; sheet = length sheet }
+
+-- the same with the places that are left on a tape with lines
 abbrev pub entering : Order → Lent → Entering
 entering o l = record { order = o; tape = length l.tape.now - l.lines; sheet = length l.sheet.now }
 

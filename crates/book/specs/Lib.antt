@@ -2,7 +2,7 @@ pub mod Answers
 pub mod Books
 pub mod Endings
 pub mod Entries
-pub mod Orders
+pub mod Ordering
 pub mod Refusals
 pub mod Returns
 pub mod Sides

@@ -1,8 +1,10 @@
 -- Which row comes back, by its place. Assumes nothing.
-use Rattle.std.specs.Prelude.{◌≡◌, ℕ, ◌-◌, ◌<◌, false, length, Some, Ok, Err, Result, slice_index_or}
+use Rattle.std.specs.Prelude.{◌≡◌, ℕ, ◌-◌, ◌<◌, false, List, length, Some, Ok, Err, Result, slice_index_or}
 use Rattle.std.specs.List.{AllByRecursion}
 use Rattle.sharing.specs.Sharing.{Sharing}
+use Rattle.sharing.specs.declared.claims.Claim.{Claim}
 use Rattle.rules.specs.declared.numbers.Refusal.{Refusal}
+use Rattle.rules.specs.declared.tape.Line.{Line}
 use Rattle.rules.specs.declared.terms.Routed.{Routed}
 use Rattle.rules.specs.Calls.{Returning, return_checks, return_of}
 use Rattle.rules.specs.Model.{Model}
@@ -11,7 +13,11 @@ use Rattle.rules.specs.Outcome.Outcome.{refused}
 use Rattle.matching.specs.declared.lent.Lent.{Lent}
 use Rattle.book.specs.declared.ticket.Ticket.{Ticket}
 
--- a return of a ticket, with the places that are left on the tape and those of the claim sheet
+-- a return as it is called: a ticket, what was executed away, and the tape and the claim sheet that the host lends
+abbrev pub return_call : Ticket → ℕ → List Line → List Claim → Returning
+return_call t executed tape sheet = record { series = t.series; id = t.id; executed = executed; tape = length tape; sheet = length sheet }
+
+-- the same with the places that are left on a tape with lines
 abbrev pub returning : Ticket → ℕ → Lent → Returning
 returning t executed l = record { series = t.series; id = t.id; executed = executed; tape = length l.tape.now - l.lines; sheet = length l.sheet.now }
 

@@ -30,7 +30,7 @@ impl<'a> Model for BookSide<'a> {
 
     ghost Value = { OneSide };
 
-    ghost use Rattle.book.specs.Orders.{Ordered};
+    ghost use Rattle.book.specs.Ordering.{Ordered};
 
     ghost view = { λ s. record { side = s.list.ranking; entries = elements s.list; places = length s.list.places.now; away = s.away } };
 
@@ -52,7 +52,8 @@ impl<'a> BookSide<'a> {
 }
 
 // An order of the other side walks over the first places.
-// Stays a function of places and a length: of part of a slice that a field refers to a proof knows the length alone once it is lent.
+// Stays a function of places and a length: where `meet` itself lent the first of its places, from the field, from a local or by
+// `split_at_mut`, its proof knew their number afterwards, and not what they hold.
 fn walk_first<R: Rule>(
     rule: &R,
     order: &Routed,
@@ -126,14 +127,14 @@ impl BookSide<'_> {
         requires { length self.old.entries < self.old.places }
         ensures { self.new ≡ with_list (ranked_in self.old.side e self.old.entries) self.old }
     {
-        let _inserted = self.list.insert(e);
+        let _ = self.list.insert(e);
     }
 
     pub(crate) fn remove(&mut self, at: usize)
         requires { at < length self.old.entries }
         ensures { self.new ≡ with_list (remove self.old.entries at) self.old }
     {
-        let _gone = self.list.remove(at);
+        self.list.remove(at);
     }
 
     // Another entry of the same rank stands in the place of one.

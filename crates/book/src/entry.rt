@@ -45,7 +45,7 @@ impl State<'_> {
         available(order, other.away(), other.entries())
     }
 
-    // The order's cap. An order that no check refuses has one.
+    // The order's cap. An order that no check refuses has one; stays 0 where there is none, as the definition of a trade has it.
     fn cap_for(&self, order: &Order) -> u32
         ensures { result ≡ unwrap_or (cap_of order.now self.now.opening.tick (reference order.now self.now)) 0 }
     {
@@ -78,6 +78,7 @@ impl State<'_> {
     }
 
     // An entry is refused by the first check that fits, and else carried out. Answers whether the order went out.
+    #[tactic(auto, using(crate::proofs::Entered::refused_settles, crate::proofs::Entered::refused_tapes, crate::proofs::Entered::done_settles, crate::proofs::Entered::done_tapes))]
     pub(crate) fn enter<R: Rule>(
         &mut self,
         rule: &R,

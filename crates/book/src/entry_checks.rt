@@ -5,6 +5,7 @@ ghost use Rattle.rules.specs.Caps.{is_ioc};
 ghost use Rattle.rules.specs.Checks.{unpriced};
 ghost use Rattle.rules.specs.Model.{entries, places};
 ghost use Rattle.rules.specs.Outcome.{longer_side, lent_checks, firm_zero};
+ghost use Rattle.rules.specs.Sound.{Sound};
 ghost use Rattle.book.specs.Entries.{entering};
 ghost use Rattle.book.specs.Refusals.{Passes};
 
@@ -46,7 +47,7 @@ impl State<'_> {
     fn no_row(&self, order: &Order) -> bool
         ensures { result ≡ (order.now.may_route && nat_le 16 (length self.now.out)) }
     {
-        order.may_route && self.out.len() >= 16
+        order.may_route && self.out.is_full()
     }
 
     // An order for the day needs a place on its side, whether it would rest or not.
@@ -65,7 +66,7 @@ impl State<'_> {
 
     // An entry is refused by the first check that fits.
     pub(crate) fn check_entry(&self, order: &Order, lent: &Lent<'_>) -> Result<(), Refusal>
-        requires { 0 < self.now.opening.tick }
+        requires { Sound self.now }
         ensures { Passes (entry_checks (entering order.now lent.now) self.now) result }
     {
         self.check_lent(lent)?;
@@ -84,7 +85,7 @@ impl State<'_> {
         if order.terms_clash() {
             return Err(Refusal::TermsClash);
         }
-        if self.last_time > 4_000_000_000 {
+        if self.last_time_reached() {
             return Err(Refusal::LastTimeReached);
         }
         if self.no_row(order) {

@@ -6,7 +6,7 @@ ghost use Rattle.book.specs.Standings.{Stands, Owns};
 use crate::state::State;
 use rules::{Entry, Refusal, Routed, Side};
 
-// What an id names.
+// What has an id of its own.
 pub(crate) trait Named {
     ghost name: { Self → ℕ };
 

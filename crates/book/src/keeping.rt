@@ -4,11 +4,13 @@ ghost use Rattle.sharing.specs.Sharing.{Lawful};
 ghost use Rattle.rules.specs.Calls.{entry_of, return_of, resize_of, cancel_of, market_of, bad_places, opened, opening_of};
 ghost use Rattle.rules.specs.Model.{entries, best, national_best};
 ghost use Rattle.rules.specs.Prices.{is_tick};
+ghost use Rattle.rules.specs.Sound.{Sound};
 ghost use Rattle.laws.specs.Histories.{is_accepted};
 ghost use Rattle.laws.specs.Histories.Call.{enters, returns, resizes, cancels, updates};
 ghost use Rattle.laws.specs.Lawful.{StaysLawful};
 ghost use Rattle.book.specs.Answers.{Settles, Checks};
-ghost use Rattle.book.specs.Entries.{taped};
+ghost use Rattle.book.specs.Entries.{entry_call, taped};
+ghost use Rattle.book.specs.Returns.{return_call};
 ghost use Rattle.book.specs.Tickets.{Gives, ReturnsAs};
 
 use crate::state::State;
@@ -20,12 +22,13 @@ use std::marker::Model;
 
 // An accepted entry: the lines of its tape, and the ticket of an order that went out.
 pub struct Accepted {
+    // Stays a number: a slice would keep the tape borrowed for as long as the answer is held.
     pub lines: usize,
     pub ticket: Option<Ticket>,
 }
 
 // The ticket of an order that went out.
-// Stays told by a flag: an `Option` of a ticket, handed on through the trade, could not be let go where there is none.
+// Stays told by a flag: a return makes no ticket, and was not let to drop the `Option` of one that a trade would answer instead.
 fn ticket_for(routed: bool, series: u32, id: u64) -> Option<Ticket>
     ensures { Gives series (if routed then Some id else None) result }
 {
@@ -119,18 +122,14 @@ impl<'a> Book<'a> {
         sheet: &mut [Claim],
         tape: &mut [Line],
     ) -> Result<Accepted, Refusal>
-        ensures outcome { Settles (entry_of (R.meaning rule.now) (record { order = order.now; tape = length tape.old; sheet = length sheet.old }) self.old) self.old result self.new (λ d a. (a.lines ≡ d.answer) × Gives self.old.opening.series d.ticket a.ticket) }
-        ensures tape { tape.new ≡ taped (entry_of (R.meaning rule.now) (record { order = order.now; tape = length tape.old; sheet = length sheet.old }) self.old) tape.old }
+        ensures outcome { Settles (entry_of (R.meaning rule.now) (entry_call order.now tape.old sheet.old) self.old) self.old result self.new (λ d a. (a.lines ≡ d.answer) × Gives self.old.opening.series d.ticket a.ticket) }
+        ensures tape { tape.new ≡ taped (entry_of (R.meaning rule.now) (entry_call order.now tape.old sheet.old) self.old) tape.old }
         ensures sheet { is_ok result ≡ false → sheet.new ≡ sheet.old }
         ensures length { length sheet.new ≡ length sheet.old }
-        ensures lawful { (keeps : Lawful (R.meaning rule.now)) → StaysLawful self.old (enters (record { shares = R.meaning rule.now; keeps = keeps }) (record { order = order.now; tape = length tape.old; sheet = length sheet.old })) }
+        ensures lawful { (keeps : Lawful (R.meaning rule.now)) → StaysLawful self.old (enters (record { shares = R.meaning rule.now; keeps = keeps }) (entry_call order.now tape.old sheet.old)) }
     {
         let series = self.state.series;
-        let mut lent = Lent {
-            sheet,
-            tape,
-            lines: 0,
-        };
+        let mut lent = Lent::new(sheet, tape);
         let routed = self.state.enter(rule, order, &mut lent)?;
         let ticket = ticket_for(routed, series, order.id);
         Ok(Accepted {
@@ -166,17 +165,13 @@ impl<'a> Book<'a> {
         sheet: &mut [Claim],
         tape: &mut [Line],
     ) -> Result<usize, NotReturned>
-        ensures outcome { ReturnsAs (return_of (R.meaning rule.now) (record { series = ticket.series; id = ticket.id; executed = executed; tape = length tape.old; sheet = length sheet.old }) self.old) self.old ticket result self.new }
-        ensures tape { tape.new ≡ taped (return_of (R.meaning rule.now) (record { series = ticket.series; id = ticket.id; executed = executed; tape = length tape.old; sheet = length sheet.old }) self.old) tape.old }
+        ensures outcome { ReturnsAs (return_of (R.meaning rule.now) (return_call ticket executed tape.old sheet.old) self.old) self.old ticket result self.new }
+        ensures tape { tape.new ≡ taped (return_of (R.meaning rule.now) (return_call ticket executed tape.old sheet.old) self.old) tape.old }
         ensures sheet { is_ok result ≡ false → sheet.new ≡ sheet.old }
         ensures length { length sheet.new ≡ length sheet.old }
-        ensures lawful { (keeps : Lawful (R.meaning rule.now)) → StaysLawful self.old (returns (record { shares = R.meaning rule.now; keeps = keeps }) (record { series = ticket.series; id = ticket.id; executed = executed; tape = length tape.old; sheet = length sheet.old })) }
+        ensures lawful { (keeps : Lawful (R.meaning rule.now)) → StaysLawful self.old (returns (record { shares = R.meaning rule.now; keeps = keeps }) (return_call ticket executed tape.old sheet.old)) }
     {
-        let mut lent = Lent {
-            sheet,
-            tape,
-            lines: 0,
-        };
+        let mut lent = Lent::new(sheet, tape);
         if let Err(refusal) = self.state.give_back(rule, &ticket, executed, &mut lent) {
             return Err(NotReturned { refusal, ticket });
         }
@@ -198,9 +193,10 @@ impl<'a> Book<'a> {
         self.state.side(side).national_best()
     }
 
-    // The number of entries on a side.
+    // The number of entries on a side. A book that one can ask is sound.
     pub fn count(&self, side: Side) -> usize
-        ensures { result ≡ length (entries side self.now) }
+        ensures count { result ≡ length (entries side self.now) }
+        ensures sound { Sound self.now }
     {
         self.state.side(side).entries().len()
     }

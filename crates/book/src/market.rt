@@ -2,6 +2,7 @@
 ghost use Rattle.std.specs.Prelude.{◌≡◌, ◌<◌};
 ghost use Rattle.rules.specs.Calls.{market_of};
 ghost use Rattle.rules.specs.Outcome.{bad_price};
+ghost use Rattle.rules.specs.Sound.{Sound};
 ghost use Rattle.book.specs.Answers.{Settles};
 
 use crate::state::State;
@@ -18,7 +19,7 @@ pub(crate) fn bad_price(tick: u32, price: Option<u32>) -> bool
 impl State<'_> {
     // Sets the away price on a side.
     pub(crate) fn market(&mut self, side: Side, price: Option<u32>) -> Result<(), Refusal>
-        requires { 0 < self.old.opening.tick }
+        requires { Sound self.old }
         ensures { Settles (market_of (record { side = side; price = price }) self.old) self.old result self.new (λ d a. Unit {0}) }
     {
         if bad_price(self.tick, price) {

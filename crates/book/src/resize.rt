@@ -25,12 +25,11 @@ impl State<'_> {
             self.replace(own.side, own.at, Entry { size, ..e });
             return Ok(size);
         }
-        let last = self.last_time;
-        if last > 4_000_000_000 {
+        if self.last_time_reached() {
             return Err(Refusal::LastTimeReached);
         }
+        let time = self.last_time + 1;
         self.remove(own.side, own.at);
-        let time = last + 1;
         self.insert(own.side, Entry { size, time, ..e });
         Ok(size)
     }

@@ -1,5 +1,5 @@
 // What the book keeps: two sides in places that the host lends, the orders out, the counters, and what it was opened with.
-ghost use Rattle.std.specs.Prelude.{◌≡◌, ◌<◌, length, slice_index_or, slice_set};
+ghost use Rattle.std.specs.Prelude.{◌≡◌, ◌<◌, length, slice_index_or, slice_set, nat_lt};
 ghost use Rattle.std.specs.List.{remove};
 ghost use Rattle.rules.specs.Calls.{opened};
 ghost use Rattle.rules.specs.Model.{entries, places, with_entries, with_away, with_last_time, ranked_in};
@@ -12,7 +12,7 @@ use rules::{Entry, Routed, Side};
 use std::marker::Model;
 
 // Stays apart from `Book`, which is sound at every call: between the steps of a call the book need not be, and a function
-// that needs it sound asks for that.
+// that needs it sound asks for that. Stays two fields: of an array of two sides each clause would read an element.
 #[derive(Drop)]
 pub(crate) struct State<'a> {
     pub bids: BookSide<'a>,
@@ -54,6 +54,13 @@ impl<'a> State<'a> {
             tick,
             series,
         }
+    }
+
+    // No working time is left to give out, but to orders that are out.
+    pub(crate) fn last_time_reached(&self) -> bool
+        ensures { result ≡ nat_lt 4000000000 self.now.counters.last_time }
+    {
+        self.last_time > 4_000_000_000
     }
 
     pub(crate) fn side(&self, side: Side) -> &BookSide<'a>

@@ -15,7 +15,7 @@ use rules::{Routed, Side};
 use sharing::Rule;
 
 impl State<'_> {
-    // Trades an order with the other side, and answers its balance.
+    // Trades an order with the other side, and answers its balance. Stays a match on the side, as those of `State` in state.rt.
     fn meet<R: Rule>(&mut self, rule: &R, order: &Routed, lent: &mut Lent<'_>) -> u32
         requires sound { Sound self.old }
         requires size { order.now.size < 100000 }

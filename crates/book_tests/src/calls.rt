@@ -1,14 +1,14 @@
 // Calls one after another: a whole history, size changes, cancels, and returns from a route.
-use crate::desk::{Desk, NO_ENTRY};
+use crate::desk::Desk;
 use crate::orders::{bid, buy_now, day, marked, offer, routable};
 use crate::rows::Row;
-use rules::{Kind, Side};
+use rules::{Entry, Kind, Side};
 
 // The worked history of docs/promises.md.
 #[test]
 fn worked_history(rt: HostRuntime) {
-    let mut bids = [NO_ENTRY; 8];
-    let mut offers = [NO_ENTRY; 8];
+    let mut bids = [Entry::default(); 8];
+    let mut offers = [Entry::default(); 8];
     let mut desk = Desk::open(&rt, &mut bids, &mut offers, 5, 1);
     desk.rest(
         marked(day(1, 11, Kind::MakerQuote, Side::Sell, 105, 100)),
@@ -53,8 +53,8 @@ fn worked_history(rt: HostRuntime) {
 // Three customers at one price trade by time: a smaller and an equal size keep it, a larger one loses it.
 #[test]
 fn size_changes(rt: HostRuntime) {
-    let mut bids = [NO_ENTRY; 8];
-    let mut offers = [NO_ENTRY; 8];
+    let mut bids = [Entry::default(); 8];
+    let mut offers = [Entry::default(); 8];
     let mut desk = Desk::open(&rt, &mut bids, &mut offers, 5, 1);
     desk.rest(day(1, 1, Kind::Customer, Side::Sell, 105, 10), 105);
     desk.rest(day(2, 2, Kind::Customer, Side::Sell, 105, 10), 105);
@@ -84,8 +84,8 @@ fn size_changes(rt: HostRuntime) {
 // More executed than was routed is refused, and the ticket is good for less. All executed away fills the order.
 #[test]
 fn returns(rt: HostRuntime) {
-    let mut bids = [NO_ENTRY; 8];
-    let mut offers = [NO_ENTRY; 8];
+    let mut bids = [Entry::default(); 8];
+    let mut offers = [Entry::default(); 8];
     let mut desk = Desk::open(&rt, &mut bids, &mut offers, 5, 1);
     desk.market(Side::Sell, Some(100), Ok(()));
     let out = desk.route(routable(bid(1, 1, 105, 10)), &[Row::Route(1, 1, 10)]);
@@ -107,8 +107,8 @@ fn returns(rt: HostRuntime) {
 // Some trade here at an equal away price, and the rest goes out.
 #[test]
 fn trades_and_goes_out(rt: HostRuntime) {
-    let mut bids = [NO_ENTRY; 8];
-    let mut offers = [NO_ENTRY; 8];
+    let mut bids = [Entry::default(); 8];
+    let mut offers = [Entry::default(); 8];
     let mut desk = Desk::open(&rt, &mut bids, &mut offers, 5, 1);
     desk.rest(offer(1, 1, 105, 4), 105);
     desk.market(Side::Sell, Some(105), Ok(()));
@@ -123,8 +123,8 @@ fn trades_and_goes_out(rt: HostRuntime) {
 // The only place was taken while the order was out: what comes back is cancelled with cause 5.
 #[test]
 fn no_place_on_return(rt: HostRuntime) {
-    let mut bids = [NO_ENTRY; 1];
-    let mut offers = [NO_ENTRY; 1];
+    let mut bids = [Entry::default(); 1];
+    let mut offers = [Entry::default(); 1];
     let mut desk = Desk::open(&rt, &mut bids, &mut offers, 5, 1);
     desk.market(Side::Sell, Some(100), Ok(()));
     let out = desk.route(routable(bid(1, 1, 105, 10)), &[Row::Route(1, 1, 10)]);
@@ -136,11 +136,11 @@ fn no_place_on_return(rt: HostRuntime) {
 // A ticket is good in its own series only, and while its order is out.
 #[test]
 fn ticket_of_another_book(rt: HostRuntime) {
-    let mut bids = [NO_ENTRY; 1];
-    let mut offers = [NO_ENTRY; 1];
+    let mut bids = [Entry::default(); 1];
+    let mut offers = [Entry::default(); 1];
     let mut desk = Desk::open(&rt, &mut bids, &mut offers, 5, 1);
-    let mut more_bids = [NO_ENTRY; 1];
-    let mut more_offers = [NO_ENTRY; 1];
+    let mut more_bids = [Entry::default(); 1];
+    let mut more_offers = [Entry::default(); 1];
     let mut other_desk = Desk::open(&rt, &mut more_bids, &mut more_offers, 5, 2);
     desk.market(Side::Sell, Some(100), Ok(()));
     other_desk.market(Side::Sell, Some(100), Ok(()));

@@ -1,27 +1,10 @@
 // Calls on a book that compare the answer with what is expected. Sides have at most eight places.
 use crate::rows::Row;
 use book::{Accepted, Book, NotReturned, Ticket, check_opening};
-use rules::{Entry, Kind, Line, Order, Refusal, Side};
+use rules::{Entry, Line, Order, Refusal, Side};
 use sharing::{Claim, Rule, SizeProRata};
 use std::mem::ManuallyDrop;
 use std::process::Abort;
-
-pub const NO_ENTRY: Entry = Entry {
-    id: 0,
-    firm: 0,
-    kind: Kind::Other,
-    market: false,
-    price: 0,
-    size: 0,
-    time: 0,
-    own_firm_mark: false,
-};
-
-pub const NO_CLAIM: Claim = Claim {
-    size: 0,
-    time: 0,
-    allotment: 0,
-};
 
 pub const NO_LINE: Line = Line::Filled { id: 0, firm: 0 };
 
@@ -102,7 +85,7 @@ impl<'a, R: Abort> Desk<'a, R> {
     // The order is accepted by this rule with this tape, and gives this ticket, if one.
     fn accept<S: Rule>(&mut self, rule: &S, order: Order, rows: &[Row]) -> Option<Held> {
         let mut tape = [NO_LINE; 9];
-        match self.try_enter(rule, order, &mut [NO_CLAIM; 8], &mut tape) {
+        match self.try_enter(rule, order, &mut [Claim::default(); 8], &mut tape) {
             Err(why) => panic!(self.rt; "the entry is refused: {why:?}"),
             Ok((lines, ticket)) => {
                 self.compare(&tape, lines, rows);
@@ -133,6 +116,7 @@ impl<'a, R: Abort> Desk<'a, R> {
     }
 
     // The entry is refused with this number, on this sheet and tape.
+    // Stays a number, here and in the calls below: a test gives what the venue tells, whose refusals docs/numbers.md numbers.
     pub fn refuse_lent(
         &mut self,
         order: Order,
@@ -148,13 +132,13 @@ impl<'a, R: Abort> Desk<'a, R> {
 
     // The entry is refused with this number.
     pub fn refuse(&mut self, order: Order, number: u8) {
-        self.refuse_lent(order, &mut [NO_CLAIM; 8], &mut [NO_LINE; 9], number);
+        self.refuse_lent(order, &mut [Claim::default(); 8], &mut [NO_LINE; 9], number);
     }
 
     // The order comes back with so many executed away, and has this tape.
     pub fn back(&mut self, held: Held, executed: u32, rows: &[Row]) {
         let mut tape = [NO_LINE; 9];
-        match self.try_back(held, executed, &mut [NO_CLAIM; 8], &mut tape) {
+        match self.try_back(held, executed, &mut [Claim::default(); 8], &mut tape) {
             Err((why, _)) => panic!(self.rt; "the return is refused: {why:?}"),
             Ok(lines) => self.compare(&tape, lines, rows),
         }
@@ -183,7 +167,7 @@ impl<'a, R: Abort> Desk<'a, R> {
         self.keep_lent(
             held,
             executed,
-            &mut [NO_CLAIM; 8],
+            &mut [Claim::default(); 8],
             &mut [NO_LINE; 9],
             number,
         )

@@ -31,6 +31,7 @@ pub fn day(id: u64, firm: u16, kind: Kind, side: Side, price: u32, size: u32) ->
 }
 
 // An offer for the day of another firm's own account.
+// Stays beside `bid`, as `buy_now` does beside `sell_now`: they differ in a side, and a table reads by the short names.
 pub fn offer(id: u64, firm: u16, price: u32, size: u32) -> Order {
     day(id, firm, Kind::Other, Side::Sell, price, size)
 }

@@ -1,13 +1,15 @@
 // What is refused, by which number, and in which order the checks come.
-use crate::desk::{Desk, NO_CLAIM, NO_ENTRY, NO_LINE};
+use crate::desk::{Desk, NO_LINE};
 use crate::orders::{
     bid, buy_now, day, directed, market_order, of, offer, routable, sell_now, with_least,
 };
 use crate::rows::Row;
 use book::check_opening;
-use rules::{Kind, Refusal, Side, Term};
+use rules::{Entry, Kind, Refusal, Side, Term};
+use sharing::Claim;
 
 // Bid places, offer places, tick and series, and the refusal's number.
+// Stays a table of numbers, as the tests below do: docs/numbers.md numbers the refusals, so the numbers are tested too.
 #[test]
 fn openings(rt: HostRuntime) {
     let table = [
@@ -33,12 +35,12 @@ fn openings(rt: HostRuntime) {
 // An order with every fault; each line mends one, and shows the next.
 #[test]
 fn checks_of_an_entry(rt: HostRuntime) {
-    let mut bids = [NO_ENTRY; 4];
-    let mut offers = [NO_ENTRY; 8];
+    let mut bids = [Entry::default(); 4];
+    let mut offers = [Entry::default(); 8];
     let mut desk = Desk::open(&rt, &mut bids, &mut offers, 5, 1);
     let bad = with_least(directed(offer(0, 0, 3, 0), 0), 1);
-    desk.refuse_lent(bad, &mut [NO_CLAIM; 7], &mut [NO_LINE; 8], 11);
-    desk.refuse_lent(bad, &mut [NO_CLAIM; 7], &mut [NO_LINE; 9], 12);
+    desk.refuse_lent(bad, &mut [Claim::default(); 7], &mut [NO_LINE; 8], 11);
+    desk.refuse_lent(bad, &mut [Claim::default(); 7], &mut [NO_LINE; 9], 12);
     desk.refuse(bad, 21);
     desk.refuse(with_least(directed(offer(1, 0, 3, 0), 9), 1), 22);
     desk.refuse(with_least(directed(offer(1, 7, 3, 0), 0), 1), 22);
@@ -56,8 +58,8 @@ fn checks_of_an_entry(rt: HostRuntime) {
 
 #[test]
 fn terms_that_clash(rt: HostRuntime) {
-    let mut bids = [NO_ENTRY; 8];
-    let mut offers = [NO_ENTRY; 8];
+    let mut bids = [Entry::default(); 8];
+    let mut offers = [Entry::default(); 8];
     let mut desk = Desk::open(&rt, &mut bids, &mut offers, 5, 1);
     let quote = day(1, 7, Kind::MakerQuote, Side::Buy, 105, 10);
     desk.refuse(
@@ -103,8 +105,8 @@ fn terms_that_clash(rt: HostRuntime) {
 // A full side is looked at for Day orders only, before the reference.
 #[test]
 fn full_side(rt: HostRuntime) {
-    let mut bids = [NO_ENTRY; 1];
-    let mut offers = [NO_ENTRY; 1];
+    let mut bids = [Entry::default(); 1];
+    let mut offers = [Entry::default(); 1];
     let mut desk = Desk::open(&rt, &mut bids, &mut offers, 5, 1);
     desk.rest(bid(1, 1, 100, 10), 100);
     desk.refuse(bid(2, 2, 105, 10), 31);
@@ -122,8 +124,8 @@ fn full_side(rt: HostRuntime) {
 
 #[test]
 fn size_changes_refused(rt: HostRuntime) {
-    let mut bids = [NO_ENTRY; 8];
-    let mut offers = [NO_ENTRY; 8];
+    let mut bids = [Entry::default(); 8];
+    let mut offers = [Entry::default(); 8];
     let mut desk = Desk::open(&rt, &mut bids, &mut offers, 5, 1);
     desk.rest(bid(1, 1, 100, 10), 100);
     desk.market(Side::Sell, Some(105), Ok(()));
@@ -142,8 +144,8 @@ fn size_changes_refused(rt: HostRuntime) {
 
 #[test]
 fn cancels_refused(rt: HostRuntime) {
-    let mut bids = [NO_ENTRY; 8];
-    let mut offers = [NO_ENTRY; 8];
+    let mut bids = [Entry::default(); 8];
+    let mut offers = [Entry::default(); 8];
     let mut desk = Desk::open(&rt, &mut bids, &mut offers, 5, 1);
     desk.rest(offer(1, 1, 110, 10), 110);
     desk.market(Side::Buy, Some(105), Ok(()));
@@ -161,8 +163,8 @@ fn cancels_refused(rt: HostRuntime) {
 
 #[test]
 fn market_updates(rt: HostRuntime) {
-    let mut bids = [NO_ENTRY; 8];
-    let mut offers = [NO_ENTRY; 8];
+    let mut bids = [Entry::default(); 8];
+    let mut offers = [Entry::default(); 8];
     let mut desk = Desk::open(&rt, &mut bids, &mut offers, 5, 1);
     desk.market(Side::Buy, Some(0), Err(23));
     desk.market(Side::Buy, Some(3), Err(23));
@@ -175,22 +177,22 @@ fn market_updates(rt: HostRuntime) {
 // A tape or a sheet that is too short hands the ticket back.
 #[test]
 fn returns_on_short_sheets(rt: HostRuntime) {
-    let mut bids = [NO_ENTRY; 4];
-    let mut offers = [NO_ENTRY; 8];
+    let mut bids = [Entry::default(); 4];
+    let mut offers = [Entry::default(); 8];
     let mut desk = Desk::open(&rt, &mut bids, &mut offers, 5, 1);
     desk.market(Side::Sell, Some(105), Ok(()));
     let out = desk.route(routable(bid(2, 2, 105, 10)), &[Row::Route(2, 2, 10)]);
-    let out = desk.keep_lent(out, 11, &mut [NO_CLAIM; 7], &mut [NO_LINE; 8], 11);
-    let out = desk.keep_lent(out, 11, &mut [NO_CLAIM; 7], &mut [NO_LINE; 9], 12);
-    let out = desk.keep_lent(out, 11, &mut [NO_CLAIM; 8], &mut [NO_LINE; 9], 42);
+    let out = desk.keep_lent(out, 11, &mut [Claim::default(); 7], &mut [NO_LINE; 8], 11);
+    let out = desk.keep_lent(out, 11, &mut [Claim::default(); 7], &mut [NO_LINE; 9], 12);
+    let out = desk.keep_lent(out, 11, &mut [Claim::default(); 8], &mut [NO_LINE; 9], 42);
     desk.back(out, 10, &[Row::Filled(2, 2)]);
 }
 
 // Sixteen are out: the next with leave to route is refused, before its side is looked at.
 #[test]
 fn sixteen_out(rt: HostRuntime) {
-    let mut bids = [NO_ENTRY; 1];
-    let mut offers = [NO_ENTRY; 1];
+    let mut bids = [Entry::default(); 1];
+    let mut offers = [Entry::default(); 1];
     let mut desk = Desk::open(&rt, &mut bids, &mut offers, 5, 1);
     desk.rest(bid(1, 1, 95, 10), 95);
     desk.market(Side::Sell, Some(105), Ok(()));

@@ -1,17 +1,17 @@
 // What entries trade, and what becomes of what is left.
-use crate::desk::{Desk, NO_ENTRY};
+use crate::desk::Desk;
 use crate::orders::{
     bid, buy_now, day, directed, marked, market_order, offer, routable, sell_now, with_least,
 };
 use crate::rows::Row;
-use rules::{Kind, Side};
+use rules::{Entry, Kind, Side};
 use sharing::ByTime;
 
 // 200 over 100, 200 and 500 of 800 are a quarter of each.
 #[test]
 fn shares_by_size(rt: HostRuntime) {
-    let mut bids = [NO_ENTRY; 8];
-    let mut offers = [NO_ENTRY; 8];
+    let mut bids = [Entry::default(); 8];
+    let mut offers = [Entry::default(); 8];
     let mut desk = Desk::open(&rt, &mut bids, &mut offers, 5, 1);
     desk.rest(offer(1, 1, 105, 100), 105);
     desk.rest(offer(2, 2, 105, 200), 105);
@@ -39,8 +39,8 @@ fn shares_by_size(rt: HostRuntime) {
 
 #[test]
 fn shares_by_size_with_a_seller(rt: HostRuntime) {
-    let mut bids = [NO_ENTRY; 8];
-    let mut offers = [NO_ENTRY; 8];
+    let mut bids = [Entry::default(); 8];
+    let mut offers = [Entry::default(); 8];
     let mut desk = Desk::open(&rt, &mut bids, &mut offers, 5, 1);
     desk.rest(bid(1, 1, 105, 100), 105);
     desk.rest(bid(2, 2, 105, 200), 105);
@@ -59,8 +59,8 @@ fn shares_by_size_with_a_seller(rt: HostRuntime) {
 // All five steps: Market Orders that came back from a route rest at their cap, 125 less 20.
 #[test]
 fn five_steps_at_a_price(rt: HostRuntime) {
-    let mut bids = [NO_ENTRY; 8];
-    let mut offers = [NO_ENTRY; 8];
+    let mut bids = [Entry::default(); 8];
+    let mut offers = [Entry::default(); 8];
     let mut desk = Desk::open(&rt, &mut bids, &mut offers, 5, 1);
     desk.market(Side::Buy, Some(125), Ok(()));
     let other = desk.route(
@@ -93,8 +93,8 @@ fn five_steps_at_a_price(rt: HostRuntime) {
 
 #[test]
 fn guarantee_by_direction_and_by_specialists(rt: HostRuntime) {
-    let mut bids = [NO_ENTRY; 8];
-    let mut offers = [NO_ENTRY; 8];
+    let mut bids = [Entry::default(); 8];
+    let mut offers = [Entry::default(); 8];
     let mut desk = Desk::open(&rt, &mut bids, &mut offers, 5, 1);
     desk.rest(day(1, 11, Kind::MakerQuote, Side::Sell, 105, 50), 105);
     desk.rest(day(2, 12, Kind::SpecialistQuote, Side::Sell, 105, 60), 105);
@@ -129,8 +129,8 @@ fn guarantee_by_direction_and_by_specialists(rt: HostRuntime) {
 // At a second price the specialist has its share alone: 30 over 10 and 90 are 3 and 27.
 #[test]
 fn no_guarantee_at_a_second_price(rt: HostRuntime) {
-    let mut bids = [NO_ENTRY; 8];
-    let mut offers = [NO_ENTRY; 8];
+    let mut bids = [Entry::default(); 8];
+    let mut offers = [Entry::default(); 8];
     let mut desk = Desk::open(&rt, &mut bids, &mut offers, 5, 1);
     desk.rest(day(1, 11, Kind::SpecialistQuote, Side::Buy, 100, 20), 100);
     desk.rest(day(2, 12, Kind::SpecialistQuote, Side::Buy, 95, 10), 95);
@@ -149,8 +149,8 @@ fn no_guarantee_at_a_second_price(rt: HostRuntime) {
 // Both carry the mark and have one firm: the entry goes, at a price that the order comes to and at no other.
 #[test]
 fn barred_entries(rt: HostRuntime) {
-    let mut bids = [NO_ENTRY; 8];
-    let mut offers = [NO_ENTRY; 8];
+    let mut bids = [Entry::default(); 8];
+    let mut offers = [Entry::default(); 8];
     let mut desk = Desk::open(&rt, &mut bids, &mut offers, 5, 1);
     desk.rest(marked(offer(1, 5, 105, 10)), 105);
     desk.rest(marked(offer(2, 6, 105, 10)), 105);
@@ -175,8 +175,8 @@ fn barred_entries(rt: HostRuntime) {
 // 15 contracts are within reach and not barred.
 #[test]
 fn least_size(rt: HostRuntime) {
-    let mut bids = [NO_ENTRY; 8];
-    let mut offers = [NO_ENTRY; 8];
+    let mut bids = [Entry::default(); 8];
+    let mut offers = [Entry::default(); 8];
     let mut desk = Desk::open(&rt, &mut bids, &mut offers, 5, 1);
     desk.rest(offer(1, 1, 105, 10), 105);
     desk.rest(marked(offer(2, 2, 105, 7)), 105);
@@ -209,8 +209,8 @@ fn least_size(rt: HostRuntime) {
 // The reference is 100, so a buyer's collar is 120.
 #[test]
 fn collar_of_a_buyer(rt: HostRuntime) {
-    let mut bids = [NO_ENTRY; 8];
-    let mut offers = [NO_ENTRY; 8];
+    let mut bids = [Entry::default(); 8];
+    let mut offers = [Entry::default(); 8];
     let mut desk = Desk::open(&rt, &mut bids, &mut offers, 1, 1);
     desk.rest(offer(1, 1, 100, 10), 100);
     desk.rest(offer(2, 2, 120, 10), 120);
@@ -228,8 +228,8 @@ fn collar_of_a_buyer(rt: HostRuntime) {
 // The reference is 201, so a seller's collar is 171.
 #[test]
 fn collar_of_a_seller(rt: HostRuntime) {
-    let mut bids = [NO_ENTRY; 8];
-    let mut offers = [NO_ENTRY; 8];
+    let mut bids = [Entry::default(); 8];
+    let mut offers = [Entry::default(); 8];
     let mut desk = Desk::open(&rt, &mut bids, &mut offers, 1, 1);
     desk.rest(bid(1, 1, 201, 10), 201);
     desk.rest(bid(2, 2, 171, 10), 171);
@@ -251,8 +251,8 @@ fn collar_of_a_seller(rt: HostRuntime) {
 // An away offer that is equal to the offer at 105, better, and worse.
 #[test]
 fn away_offers(rt: HostRuntime) {
-    let mut bids = [NO_ENTRY; 8];
-    let mut offers = [NO_ENTRY; 8];
+    let mut bids = [Entry::default(); 8];
+    let mut offers = [Entry::default(); 8];
     let mut desk = Desk::open(&rt, &mut bids, &mut offers, 5, 1);
     desk.rest(offer(1, 1, 105, 30), 105);
     desk.market(Side::Sell, Some(105), Ok(()));
@@ -274,8 +274,8 @@ fn away_offers(rt: HostRuntime) {
 // The same with bids.
 #[test]
 fn away_bids(rt: HostRuntime) {
-    let mut bids = [NO_ENTRY; 8];
-    let mut offers = [NO_ENTRY; 8];
+    let mut bids = [Entry::default(); 8];
+    let mut offers = [Entry::default(); 8];
     let mut desk = Desk::open(&rt, &mut bids, &mut offers, 5, 1);
     desk.rest(bid(1, 1, 105, 30), 105);
     desk.market(Side::Buy, Some(105), Ok(()));

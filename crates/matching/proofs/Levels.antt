@@ -1,7 +1,6 @@
 -- One price: what its parts ask, one after another, and what they come to. Assumes nothing.
 use Rattle.std.proofs.Common.{◌≡◌, ℕ, ◌+◌, ◌≤◌, Bool, not, List, map, length, filter, sym, refl, ap, subst, arith}
-use Rattle.std.specs.List.{AllByRecursion}
-use Rattle.std.proofs.ByRecursion.{all_kept_by, All-weaker}
+use Rattle.std.proofs.ByRecursion.{all_kept_by}
 use Rattle.std.proofs.lemmas.Bool.{eqb-true}
 use Rattle.sharing.specs.Rules.{by_time}
 use Rattle.sharing.specs.Sharing.{Sharing, Lawful}
@@ -50,9 +49,6 @@ module _ {rule : Sharing} {o : Routed} {at_best : Bool} {b : ℕ} {run : List En
 
   abbrev pub F4 : Deal → Deal
   F4 = makers rule at_best o.directed
-
-  pub sizes : AllByRecursion (λ e. 1 ≤ e.size) run
-  sizes = All-weaker (λ e. (1 ≤ e.size) × (e.size ≤ 99999)) (λ e. 1 ≤ e.size) (λ e h. h.0) run comes.tradable.sized
 
   -- each finds what may trade
   ok_0 : Tradable d0.balance d0.run

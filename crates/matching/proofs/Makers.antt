@@ -1,7 +1,7 @@
 -- What steps 4 and 5 may ask of a rule, and that they have room. Assumes nothing.
 use Rattle.std.proofs.Common.{◌≡◌, ℕ, ◌+◌, ◌^◌, ◌<◌, ◌≤◌, Bool, true, false, not, ◌&&◌, leb, ◌⊎◌, List, map, length, filter, Option, sym, refl, ap, ◌∙◌, subst, ⊎_elim, arith}
 use Rattle.std.proofs.ByRecursion.{All-weaker}
-use Rattle.std.proofs.lemmas.Bool.{and_parts, cond-true, cond-false, eqb-true, le-leb, lt-leb}
+use Rattle.std.proofs.lemmas.Bool.{and_parts, and_right, cond-true, cond-false, eqb-true, le-leb, lt-leb}
 use Rattle.sharing.specs.Claims.{Shareable}
 use Rattle.sharing.specs.Sharing.{Sharing, Lawful}
 use Rattle.sharing.specs.Totals.{total}
@@ -36,6 +36,13 @@ pub record Meets (rule : Sharing) (at_best : Bool) (directed : Option ℕ) (b : 
   pub room : lent.lines + length (makers rule at_best directed (bare b (live run))).lines ≤ length lent.tape.now
   pub group : g ≡ in_group directed (live run)
 
+-- where the guarantee acts, by an amount
+pub record Guaranteed (at_best : Bool) (b : ℕ) (run : List Entry) (g : Entry → Bool) (a : ℕ) : Type 0 where
+  pub best : at_best ≡ true
+  pub some : 0 < b
+  pub shown : 0 < total size_of (filter g (live run))
+  pub amount : a ≡ group_amount b (total size_of (filter g (live run))) (total size_of (filter (in_class 4) (live run)))
+
 -- the other makers
 abbrev pub beside : (Entry → Bool) → Entry → Bool
 beside g e = in_class 4 e && not (g e)
@@ -62,8 +69,7 @@ module _ {rule : Sharing} {at_best : Bool} {directed : Option ℕ} {b : ℕ} {ru
   acts_as : acts at_best directed (bare b (live run)) ≡ (at_best && (leb 1 b && leb 1 shows))
   acts_as = ap (λ h. at_best && (leb 1 b && leb 1 (total size_of (filter h (live run))))) (sym meets.group)
 
-  -- where the guarantee acts, by an amount
-  module _ (best : at_best ≡ true) (some : 0 < b) (shown : 0 < shows) {a : ℕ} (amount : a ≡ group_amount b shows all) where
+  module _ {a : ℕ} (has : Guaranteed at_best b run g a) where
     abbrev fourth : Deal
     fourth = step GuaranteedQuotes g rule a (bare b (live run))
 
@@ -71,20 +77,20 @@ module _ {rule : Sharing} {at_best : Bool} {directed : Option ℕ} {b : ℕ} {ru
     fifth = step_all OtherInterest (beside g) rule
 
     acting : acts at_best directed (bare b (live run)) ≡ true
-    acting = acts_as ∙ (λ t. best t && (le-leb 1 b (omega arith) t && le-leb 1 shows (omega arith) t))
+    acting = acts_as ∙ (λ t. has.best t && (le-leb 1 b (omega (arith, has.some)) t && le-leb 1 shows (omega (arith, has.shown)) t))
 
     makers_act : makers rule at_best directed (bare b (live run)) ≡ fifth fourth
     unfolding makers
     makers_act =
         cond-true (acts at_best directed (bare b (live run))) _ _ acting
         ∙ (λ t. step_all OtherInterest (beside (sym meets.group t)) rule (step GuaranteedQuotes (sym meets.group t) rule (group_amount b (total size_of (filter (sym meets.group t) (live run))) all) (bare b (live run))))
-        ∙ ap (λ n. fifth (step GuaranteedQuotes g rule n (bare b (live run)))) (sym amount)
+        ∙ ap (λ n. fifth (step GuaranteedQuotes g rule n (bare b (live run)))) (sym has.amount)
 
     room_5 : lent.lines + length (fifth fourth).lines ≤ length lent.tape.now
     room_5 = omega (arith, meets.room, ap (λ d. length d.lines) makers_act)
 
     pub within_4 : a ≤ b
-    within_4 = omega (arith, amount, group_and_others b shows all (omega arith) (omega arith) no_more)
+    within_4 = omega (arith, has.amount, group_and_others b shows all (omega (arith, has.some)) (omega (arith, has.shown)) no_more)
 
     small_4 : a < 100000
     small_4 = omega (arith, within_4, meets.tradable.small)
@@ -107,12 +113,8 @@ module _ {rule : Sharing} {at_best : Bool} {directed : Option ℕ} {b : ℕ} {ru
 
   -- where it does not: one step
   module _ (why : (at_best ≡ false) ⊎ ((b < 1) ⊎ (shows < 1))) where
-    and_false : (x : Bool) → (x && false) ≡ false
-    and_false true = refl
-    and_false false = refl
-
     resting : acts at_best directed (bare b (live run)) ≡ false
-    resting = acts_as ∙ ⊎_elim (λ h. ap (λ x. x && (leb 1 b && leb 1 shows)) h) (λ more. ⊎_elim (λ h. ap (λ x. at_best && (x && leb 1 shows)) (lt-leb 1 b h) ∙ and_false at_best) (λ h. ap (λ x. at_best && (leb 1 b && x)) (lt-leb 1 shows h) ∙ ap (λ x. at_best && x) (and_false (leb 1 b)) ∙ and_false at_best) more) why
+    resting = acts_as ∙ ⊎_elim (λ h. ap (λ x. x && (leb 1 b && leb 1 shows)) h) (λ more. ⊎_elim (λ h. ap (λ x. at_best && (x && leb 1 shows)) (lt-leb 1 b h) ∙ and_right at_best false refl) (λ h. ap (λ x. at_best && (leb 1 b && x)) (lt-leb 1 shows h) ∙ ap (λ x. at_best && x) (and_right (leb 1 b) false refl) ∙ and_right at_best false refl) more) why
 
     makers_rest : makers rule at_best directed (bare b (live run)) ≡ step_all OtherInterest (in_class 4) rule (bare b (live run))
     unfolding makers

@@ -45,37 +45,29 @@ left_of t ns es = left_after (spread t ns es) es
 abbrev pub lines_of : Step → (Entry → Bool) → List ℕ → List Entry → List Line
 lines_of k t ns es = fills k (spread t ns es) es
 
--- entries that are gone may be left out at the start
-module _ (t : Entry → Bool) (k : Step) where
-  left_more : (n : ℕ) (e : Entry) (ns ms : List ℕ) (es fs : List Entry) → left_after ns es ≡ left_after ms fs → left_after (n ∷ ns) (e ∷ es) ≡ left_after (n ∷ ms) (e ∷ fs)
-  left_more n e ns ms es fs same = λ i. cond (ltb n e.size) (resized (e.size - n) e ∷ same i) (same i)
-
-  pub left_live : (ns : List ℕ) (es : List Entry) → left_of (takes_part t) ns es ≡ left_of t ns (live es)
-  left_live ns [] = refl
-  left_live ns (e ∷ es) =
-      let whole : (b : Bool) → is_live e ≡ b → left_of (takes_part t) ns (e ∷ es) ≡ left_after (cond (b && t e) (first_or_0 ns ∷ spread (takes_part t) (but_first ns) es) (0 ∷ spread (takes_part t) ns es)) (e ∷ es) = λ b h. ap (λ x. left_after (cond (x && t e) (first_or_0 ns ∷ spread (takes_part t) (but_first ns) es) (0 ∷ spread (takes_part t) ns es)) (e ∷ es)) h in
-      cond_both (is_live e) (e ∷ live es) (live es) (λ l. left_of (takes_part t) ns (e ∷ es) ≡ left_of t ns l)
+-- entries that are gone may be left out at the start, of what goes on as its rest does and passes by a gone entry that gave nothing
+module _ {X : Type 0} (out : List ℕ → List Entry → X)
+    (more : (n : ℕ) (e : Entry) (ns ms : List ℕ) (es fs : List Entry) → out ns es ≡ out ms fs → out (n ∷ ns) (e ∷ es) ≡ out (n ∷ ms) (e ∷ fs))
+    (by : (e : Entry) (ns : List ℕ) (es : List Entry) → is_live e ≡ false → out (0 ∷ ns) (e ∷ es) ≡ out ns es) (t : Entry → Bool) where
+  only_live : (ns : List ℕ) (es : List Entry) → out (spread (takes_part t) ns es) es ≡ out (spread t ns (live es)) (live es)
+  only_live ns [] = refl
+  only_live ns (e ∷ es) =
+      let whole : (b : Bool) → is_live e ≡ b → out (spread (takes_part t) ns (e ∷ es)) (e ∷ es) ≡ out (cond (b && t e) (first_or_0 ns ∷ spread (takes_part t) (but_first ns) es) (0 ∷ spread (takes_part t) ns es)) (e ∷ es) = λ b h. ap (λ x. out (cond (x && t e) (first_or_0 ns ∷ spread (takes_part t) (but_first ns) es) (0 ∷ spread (takes_part t) ns es)) (e ∷ es)) h in
+      cond_both (is_live e) (e ∷ live es) (live es) (λ l. out (spread (takes_part t) ns (e ∷ es)) (e ∷ es) ≡ out (spread t ns l) l)
       (λ alive. whole true alive
-      ∙ elim (t e) as (λ b. left_after (cond b (first_or_0 ns ∷ spread (takes_part t) (but_first ns) es) (0 ∷ spread (takes_part t) ns es)) (e ∷ es) ≡ left_after (cond b (first_or_0 ns ∷ spread t (but_first ns) (live es)) (0 ∷ spread t ns (live es))) (e ∷ live es)) [
-        | true ↦ left_more (first_or_0 ns) e (spread (takes_part t) (but_first ns) es) (spread t (but_first ns) (live es)) es (live es) (left_live (but_first ns) es)
-        | false ↦ left_more 0 e (spread (takes_part t) ns es) (spread t ns (live es)) es (live es) (left_live ns es)
+      ∙ elim (t e) as (λ b. out (cond b (first_or_0 ns ∷ spread (takes_part t) (but_first ns) es) (0 ∷ spread (takes_part t) ns es)) (e ∷ es) ≡ out (cond b (first_or_0 ns ∷ spread t (but_first ns) (live es)) (0 ∷ spread t ns (live es))) (e ∷ live es)) [
+        | true ↦ more (first_or_0 ns) e (spread (takes_part t) (but_first ns) es) (spread t (but_first ns) (live es)) es (live es) (only_live (but_first ns) es)
+        | false ↦ more 0 e (spread (takes_part t) ns es) (spread t ns (live es)) es (live es) (only_live ns es)
       ])
-      (λ gone. whole false gone ∙ cond-false (is_live e) _ _ gone ∙ left_live ns es)
+      (λ gone. whole false gone ∙ by e (spread (takes_part t) ns es) es gone ∙ only_live ns es)
 
-  lines_more : (n : ℕ) (e : Entry) (ns ms : List ℕ) (es fs : List Entry) → fills k ns es ≡ fills k ms fs → fills k (n ∷ ns) (e ∷ es) ≡ fills k (n ∷ ms) (e ∷ fs)
-  lines_more n e ns ms es fs same = λ i. cond (ltb 0 n) (fill k n e ∷ same i) (same i)
+pub left_live : (t : Entry → Bool) (ns : List ℕ) (es : List Entry) → left_of (takes_part t) ns es ≡ left_of t ns (live es)
+left_live t ns es =
+    only_live left_after (λ n e ns ms es fs same i. cond (ltb n e.size) (resized (e.size - n) e ∷ same i) (same i))
+    (λ e ns es gone. cond-false (is_live e) _ _ gone) t ns es
 
-  pub lines_live : (ns : List ℕ) (es : List Entry) → lines_of k (takes_part t) ns es ≡ lines_of k t ns (live es)
-  lines_live ns [] = refl
-  lines_live ns (e ∷ es) =
-      let whole : (b : Bool) → is_live e ≡ b → lines_of k (takes_part t) ns (e ∷ es) ≡ fills k (cond (b && t e) (first_or_0 ns ∷ spread (takes_part t) (but_first ns) es) (0 ∷ spread (takes_part t) ns es)) (e ∷ es) = λ b h. ap (λ x. fills k (cond (x && t e) (first_or_0 ns ∷ spread (takes_part t) (but_first ns) es) (0 ∷ spread (takes_part t) ns es)) (e ∷ es)) h in
-      cond_both (is_live e) (e ∷ live es) (live es) (λ l. lines_of k (takes_part t) ns (e ∷ es) ≡ lines_of k t ns l)
-      (λ alive. whole true alive
-      ∙ elim (t e) as (λ b. fills k (cond b (first_or_0 ns ∷ spread (takes_part t) (but_first ns) es) (0 ∷ spread (takes_part t) ns es)) (e ∷ es) ≡ fills k (cond b (first_or_0 ns ∷ spread t (but_first ns) (live es)) (0 ∷ spread t ns (live es))) (e ∷ live es)) [
-        | true ↦ lines_more (first_or_0 ns) e (spread (takes_part t) (but_first ns) es) (spread t (but_first ns) (live es)) es (live es) (lines_live (but_first ns) es)
-        | false ↦ lines_more 0 e (spread (takes_part t) ns es) (spread t ns (live es)) es (live es) (lines_live ns es)
-      ])
-      (λ gone. whole false gone ∙ lines_live ns es)
+pub lines_live : (k : Step) (t : Entry → Bool) (ns : List ℕ) (es : List Entry) → lines_of k (takes_part t) ns es ≡ lines_of k t ns (live es)
+lines_live k t ns es = only_live (fills k) (λ n e ns ms es fs same i. cond (ltb 0 n) (fill k n e ∷ same i) (same i)) (λ e ns es gone. refl) t ns es
 
 -- the entries es and the numbers ns are to come: with what is done they make what is left and the lines at the end
 pub record Rest (k : Step) (t : Entry → Bool) (all_left : List Entry) (all_lines : List Line) (ns : List ℕ) (es done : List Entry) (lines : List Line) : Type 0 where

@@ -2,10 +2,9 @@
 use Rattle.std.specs.Prelude.{ℕ, Bool, not, ◌&&◌, List, map, filter, nat_lt}
 use Rattle.sharing.specs.declared.claims.Claim.{Claim}
 use Rattle.sharing.specs.Claims.{allotment_of}
-use Rattle.rules.specs.declared.ranks.Class as classes
 use Rattle.rules.specs.declared.ranks.Class.TheVariants.{CustomerMarketOrder, OtherMarketOrder, CustomerLimitOrder, OtherInterest}
 use Rattle.rules.specs.declared.tape.Step.{Step}
-use Rattle.rules.specs.declared.tape.Step.TheVariants.{CustomerMarketOrders, OtherMarketOrders, CustomerLimitOrders, OtherInterest as OtherInterestStep}
+use Rattle.rules.specs.declared.tape.Step.TheVariants.{CustomerMarketOrders, OtherMarketOrders, CustomerLimitOrders, GuaranteedQuotes, OtherInterest as OtherInterestStep}
 use Rattle.rules.specs.declared.terms.Entry.{Entry}
 use Rattle.rules.specs.Level.{in_class, quote_of, specialist, spread}
 use Rattle.rules.specs.Ranks.{class_number}
@@ -25,12 +24,14 @@ part_test (Class k) = in_class (class_number k)
 part_test (Within g) = group_test g
 part_test (Beside g) = λ e. in_class 4 e && not (group_test g e)
 
--- the step in which a whole class takes part
-abbrev pub step_of : classes.Class → Step
-step_of CustomerMarketOrder = CustomerMarketOrders
-step_of OtherMarketOrder = OtherMarketOrders
-step_of CustomerLimitOrder = CustomerLimitOrders
-step_of OtherInterest = OtherInterestStep
+-- the step in which they trade: a class as a whole, the group with its guarantee, the others of the fourth class
+abbrev pub step_for : Part → Step
+step_for (Class CustomerMarketOrder) = CustomerMarketOrders
+step_for (Class OtherMarketOrder) = OtherMarketOrders
+step_for (Class CustomerLimitOrder) = CustomerLimitOrders
+step_for (Class OtherInterest) = OtherInterestStep
+step_for (Within g) = GuaranteedQuotes
+step_for (Beside g) = OtherInterestStep
 
 -- an entry with no contracts left is gone, though its place is not closed yet
 abbrev pub is_live : Entry → Bool

@@ -14,7 +14,18 @@ pub struct Lent<'a> {
     pub lines: usize,
 }
 
-impl Lent<'_> {
+impl<'a> Lent<'a> {
+    // A tape of which no line is written yet.
+    pub fn new(sheet: &'a mut [Claim], tape: &'a mut [Line]) -> Self
+        ensures { result ≡ record { sheet = sheet.entry; tape = tape.entry; lines = 0 } }
+    {
+        Lent {
+            sheet,
+            tape,
+            lines: 0,
+        }
+    }
+
     // The next line of the tape.
     pub fn write(&mut self, line: Line)
         requires room { self.old.lines < length self.old.tape.now }

@@ -1,8 +1,8 @@
 // Which entries at a price take part in a step.
 ghost use Rattle.std.specs.Prelude.{◌≡◌};
-ghost use Rattle.matching.specs.Parts.{group_test, part_test, takes_part};
+ghost use Rattle.matching.specs.Parts.{group_test, part_test, step_for, takes_part};
 
-use rules::{Class, Entry, Kind};
+use rules::{Class, Entry, Kind, Step};
 
 // The makers with a guarantee: the quotes of the firm that an order is directed to, or all specialist quotes.
 #[derive(Clone, Copy)]
@@ -33,6 +33,19 @@ impl Group {
 }
 
 impl Part {
+    // The step in which they trade.
+    pub fn step(self) -> Step
+        ensures { result ≡ step_for self }
+    {
+        match self {
+            Part::Class(Class::CustomerMarketOrder) => Step::CustomerMarketOrders,
+            Part::Class(Class::OtherMarketOrder) => Step::OtherMarketOrders,
+            Part::Class(Class::CustomerLimitOrder) => Step::CustomerLimitOrders,
+            Part::Within(_) => Step::GuaranteedQuotes,
+            Part::Class(Class::OtherInterest) | Part::Beside(_) => Step::OtherInterest,
+        }
+    }
+
     // The entry has contracts left, and is one of them.
     pub fn takes(self, e: &Entry) -> bool
         ensures { result ≡ takes_part (part_test self) e.now }

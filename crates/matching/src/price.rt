@@ -13,7 +13,7 @@ ghost use Rattle.matching.specs.Tapes.{Writes};
 use crate::lent::Lent;
 use crate::parts::{Group, Part};
 use crate::step::{class_step, step};
-use rules::{Cause, Class, Entry, Line, Routed, Step, for_the_group};
+use rules::{Cause, Class, Entry, Line, Routed, for_the_group};
 use sharing::{ByTime, Rule};
 
 // Cancels the entries that are barred to an order, a line for each, with nothing left of them.
@@ -82,10 +82,8 @@ fn makers<R: Rule>(
     if at_best && balance > 0 && shows > 0 {
         let all = shown(Part::Class(Class::OtherInterest), run);
         let amount = for_the_group(balance, shows, all);
-        let name = Step::GuaranteedQuotes;
-        let left = step(rule, name, within, amount, balance, run, lent);
-        let beside = Part::Beside(group);
-        step(rule, Step::OtherInterest, beside, left, left, run, lent)
+        let left = step(rule, within, amount, balance, run, lent);
+        step(rule, Part::Beside(group), left, left, run, lent)
     } else {
         class_step(rule, Class::OtherInterest, balance, run, lent)
     }

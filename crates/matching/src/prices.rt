@@ -23,6 +23,8 @@ pub struct Walked {
 }
 
 // The contracts that are not barred at prices within reach.
+// Stays a chain of its own beside that of `shown`: one function over a closure was tried, and needed two clauses that name the
+// test which the closure computes, longer than both chains.
 pub fn available(order: &Routed, away: Option<u32>, entries: &[Entry]) -> u32
     requires { total size_of entries.now < 2 ^ 32 }
     ensures { result ≡ walking.available order.now away entries.now }

@@ -9,13 +9,13 @@ ghost use Rattle.rules.specs.Level.{size_of, claim_of, left_after, fills, in_cla
 ghost use Rattle.rules.specs.Level as level;
 ghost use Rattle.rules.specs.Ranks.{class_number};
 ghost use Rattle.matching.specs.Deals.{bare, Dealt};
-ghost use Rattle.matching.specs.Parts as parts;
-ghost use Rattle.matching.specs.Parts.{part_test, live, taking, gives};
+ghost use Rattle.matching.specs.declared.parts.Part.TheVariants.{Class as whole};
+ghost use Rattle.matching.specs.Parts.{part_test, step_for, live, taking, gives};
 ghost use Rattle.matching.specs.Tapes.{Writes};
 
 use crate::lent::Lent;
 use crate::parts::Part;
-use rules::{Class, Entry, Line, Step};
+use rules::{Class, Entry, Line};
 use sharing::{Claim, Rule, share_out};
 
 // Writes the claims of those who take part to the front of the sheet, and answers how many they are.
@@ -53,13 +53,13 @@ fn share<R: Rule>(rule: &R, part: Part, amount: u32, run: &[Entry], sheet: &mut 
 }
 
 // Writes a fill for each that was allotted something, and takes it off.
-fn pay(part: Part, step: Step, run: &mut [Entry], lent: &mut Lent<'_>)
+fn pay(part: Part, run: &mut [Entry], lent: &mut Lent<'_>)
     requires claims { length (taking part run.old) ≤ length lent.old.sheet.now }
     requires within { AllZip ◌≤◌ (map allotment_of (take (length (taking part run.old)) lent.old.sheet.now)) (map size_of (taking part run.old)) }
-    requires room { lent.old.lines + length (fills step (gives part lent.old.sheet.now run.old) (live run.old)) ≤ length lent.old.tape.now }
+    requires room { lent.old.lines + length (fills (step_for part) (gives part lent.old.sheet.now run.old) (live run.old)) ≤ length lent.old.tape.now }
     ensures run { live run.new ≡ left_after (gives part lent.old.sheet.now run.old) (live run.old) }
     ensures places { length run.new ≡ length run.old }
-    ensures writes { Writes (fills step (gives part lent.old.sheet.now run.old) (live run.old)) lent.old lent.new }
+    ensures writes { Writes (fills (step_for part) (gives part lent.old.sheet.now run.old) (live run.old)) lent.old lent.new }
 {
     // Stays: the claims are counted, since an iterator over the sheet would borrow what `write` is called on.
     let mut j = 0;
@@ -73,7 +73,7 @@ fn pay(part: Part, step: Step, run: &mut [Entry], lent: &mut Lent<'_>)
                     firm: e.firm,
                     size,
                     price: e.price,
-                    step,
+                    step: part.step(),
                 });
                 e.size -= size;
             }
@@ -85,7 +85,6 @@ fn pay(part: Part, step: Step, run: &mut [Entry], lent: &mut Lent<'_>)
 // Stays: balance, run and lent go side by side, since a struct of them would have to say at each step whose its two loans are.
 pub(crate) fn step<R: Rule>(
     rule: &R,
-    name: Step,
     part: Part,
     amount: u32,
     balance: u32,
@@ -95,25 +94,12 @@ pub(crate) fn step<R: Rule>(
     requires shareable { Shareable amount (map claim_of (taking part run.old)) }
     requires amount { amount ≤ balance }
     requires sheet { length run.old ≤ length lent.old.sheet.now }
-    requires room { lent.old.lines + length (level.step name (part_test part) (R.meaning rule.now) amount (bare balance (live run.old))).lines ≤ length lent.old.tape.now }
-    ensures { Dealt (level.step name (part_test part) (R.meaning rule.now) amount (bare balance (live run.old))) run.old run.new lent.old lent.new result }
+    requires room { lent.old.lines + length (level.step (step_for part) (part_test part) (R.meaning rule.now) amount (bare balance (live run.old))).lines ≤ length lent.old.tape.now }
+    ensures { Dealt (level.step (step_for part) (part_test part) (R.meaning rule.now) amount (bare balance (live run.old))) run.old run.new lent.old lent.new result }
 {
     let given = share(rule, part, amount, run, lent.sheet);
-    pay(part, name, run, lent);
+    pay(part, run, lent);
     balance - given
-}
-
-// The step in which a whole class takes part.
-// Stays: a `From` would stand in the crate of the two types, away from the one call that needs it.
-fn step_of(class: Class) -> Step
-    ensures { result ≡ parts.step_of class }
-{
-    match class {
-        Class::CustomerMarketOrder => Step::CustomerMarketOrders,
-        Class::OtherMarketOrder => Step::OtherMarketOrders,
-        Class::CustomerLimitOrder => Step::CustomerLimitOrders,
-        Class::OtherInterest => Step::OtherInterest,
-    }
 }
 
 // The step of a whole class, over the whole balance.
@@ -126,9 +112,8 @@ pub(crate) fn class_step<R: Rule>(
 ) -> u32
     requires tradable { Tradable balance (live run.old) }
     requires sheet { length run.old ≤ length lent.old.sheet.now }
-    requires room { lent.old.lines + length (level.step_all (parts.step_of class) (in_class (class_number class)) (R.meaning rule.now) (bare balance (live run.old))).lines ≤ length lent.old.tape.now }
-    ensures { Dealt (level.step_all (parts.step_of class) (in_class (class_number class)) (R.meaning rule.now) (bare balance (live run.old))) run.old run.new lent.old lent.new result }
+    requires room { lent.old.lines + length (level.step_all (step_for (whole class)) (in_class (class_number class)) (R.meaning rule.now) (bare balance (live run.old))).lines ≤ length lent.old.tape.now }
+    ensures { Dealt (level.step_all (step_for (whole class)) (in_class (class_number class)) (R.meaning rule.now) (bare balance (live run.old))) run.old run.new lent.old lent.new result }
 {
-    let name = step_of(class);
-    step(rule, name, Part::Class(class), balance, balance, run, lent)
+    step(rule, Part::Class(class), balance, balance, run, lent)
 }

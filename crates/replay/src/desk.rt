@@ -11,12 +11,6 @@ use std::fmt::Display;
 use std::io;
 use std::str::Lines;
 
-const NO_CLAIM: Claim = Claim {
-    size: 0,
-    time: 0,
-    allotment: 0,
-};
-
 const NO_LINE: Line = Line::Filled { id: 0, firm: 0 };
 
 // An entry that came to rest.
@@ -34,10 +28,25 @@ struct Lent {
     tape: [Line; MOST],
 }
 
-const EMPTY: Lent = Lent {
-    sheet: [NO_CLAIM; MOST],
-    tape: [NO_LINE; MOST],
-};
+impl Lent {
+    // Both with nothing in their places.
+    fn new() -> Lent {
+        Lent {
+            sheet: [Claim::default(); MOST],
+            tape: [NO_LINE; MOST],
+        }
+    }
+
+    // The first places of both, as many as a call asks for.
+    fn places(&mut self, means: Means) -> (&mut [Claim], &mut [Line]) {
+        let sheet = self.sheet.as_mut_slice();
+        let tape = self.tape.as_mut_slice();
+        (
+            &mut sheet[..means.sheet.count],
+            &mut tape[..means.tape.count],
+        )
+    }
+}
 
 // A book, the tickets of its orders that are out, and all entries that ever rested there.
 pub struct Desk<'a, P: Print> {
@@ -80,9 +89,8 @@ impl<'a, P: Print> Desk<'a, P> {
 
     fn enter(&mut self, means: Means, order: Order) -> Result<(), Stop> {
         let Order { id, side, .. } = order;
-        let mut lent = EMPTY;
-        let sheet = &mut lent.sheet[..means.sheet.count];
-        let tape = &mut lent.tape[..means.tape.count];
+        let mut lent = Lent::new();
+        let (sheet, tape) = lent.places(means);
         match self.book.enter(&means.rule, &order, sheet, tape) {
             Err(why) => Ok(println!(self.rt; "{}", Shown(why))?),
             Ok(Accepted { lines, ticket }) => {
@@ -98,9 +106,8 @@ impl<'a, P: Print> Desk<'a, P> {
         let Some(Held { side, ticket }) = self.held.remove(&id) else {
             return Ok(println!(self.rt; "noticket")?);
         };
-        let mut lent = EMPTY;
-        let sheet = &mut lent.sheet[..means.sheet.count];
-        let tape = &mut lent.tape[..means.tape.count];
+        let mut lent = Lent::new();
+        let (sheet, tape) = lent.places(means);
         match self
             .book
             .give_back(&means.rule, ticket, executed, sheet, tape)
@@ -175,7 +182,7 @@ impl<'a, P: Print> Desk<'a, P> {
             leave_all(held);
             return Err(stop);
         }
-        let mut lent = EMPTY;
+        let mut lent = Lent::new();
         while let Some((_, Held { side: _, ticket })) = held.pop_first() {
             if let Err(NotReturned { refusal: _, ticket }) = book.give_back(
                 &ByTime,

@@ -12,21 +12,10 @@ use crate::printing::Shown;
 use crate::reading::{MOST, Opening};
 use crate::tickets::Stop;
 use book::{Book, check_opening};
-use rules::{Entry, Kind};
+use rules::Entry;
 use std::alloc::Global;
 use std::io;
 use std::str::Lines;
-
-const NO_ENTRY: Entry = Entry {
-    id: 0,
-    firm: 0,
-    kind: Kind::Customer,
-    market: false,
-    price: 0,
-    size: 0,
-    time: 0,
-    own_firm_mark: false,
-};
 
 // Replays the calls on a new book, if it can be opened.
 fn replay(rt: &impl Print, heap: Global, opening: Opening, lines: Lines<'_>) -> Result<(), Stop> {
@@ -39,8 +28,8 @@ fn replay(rt: &impl Print, heap: Global, opening: Opening, lines: Lines<'_>) -> 
     if let Err(why) = check_opening(bids.count, offers.count, tick, series) {
         return Ok(println!(rt; "{}", Shown(why))?);
     }
-    let mut bid_places = [NO_ENTRY; MOST];
-    let mut offer_places = [NO_ENTRY; MOST];
+    let mut bid_places = [Entry::default(); MOST];
+    let mut offer_places = [Entry::default(); MOST];
     let book = Book::open(
         &mut bid_places[..bids.count],
         &mut offer_places[..offers.count],

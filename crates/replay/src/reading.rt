@@ -1,4 +1,5 @@
 // Reads the lines of a sheet, word by word.
+ghost use Rattle.replay.specs.declared.reading.TheConstants.{MOST};
 ghost use Rattle.std.specs.Prelude.{◌≤◌};
 
 use crate::shipped::Shipped;
@@ -16,7 +17,7 @@ pub struct Unreadable;
 #[derive(Clone, Copy)]
 pub struct Places {
     pub count: usize,
-    ghost within: { count ≤ 300 },
+    ghost within: { count ≤ MOST },
 }
 
 #[derive(Clone, Copy)]
@@ -61,7 +62,7 @@ pub enum Call {
     },
 }
 
-// What stands in a sheet as one word and is no plain number.
+// What a sheet gives by one word: a count of places, or what has a name there.
 trait Word: Sized {
     fn read(word: &str) -> Result<Self, Unreadable>;
 }
@@ -75,55 +76,56 @@ impl Word for Places {
     }
 }
 
+// What a word stands for, by a table of pairs.
+fn one_of<T: Copy>(word: &str, table: &[(&str, T)]) -> Result<T, Unreadable> {
+    table
+        .iter()
+        .find(|pair| pair.0 == word)
+        .map(|pair| pair.1)
+        .ok_or(Unreadable)
+}
+
 impl Word for bool {
     fn read(word: &str) -> Result<bool, Unreadable> {
-        match word {
-            "1" => Ok(true),
-            "0" => Ok(false),
-            _ => Err(Unreadable),
-        }
+        one_of(word, &[("1", true), ("0", false)])
     }
 }
 
 impl Word for Shipped {
     fn read(word: &str) -> Result<Shipped, Unreadable> {
-        match word {
-            "time" => Ok(Shipped::ByTime),
-            "size" => Ok(Shipped::SizeProRata),
-            _ => Err(Unreadable),
-        }
+        one_of(
+            word,
+            &[("time", Shipped::ByTime), ("size", Shipped::SizeProRata)],
+        )
     }
 }
 
 impl Word for Side {
     fn read(word: &str) -> Result<Side, Unreadable> {
-        match word {
-            "buy" => Ok(Side::Buy),
-            "sell" => Ok(Side::Sell),
-            _ => Err(Unreadable),
-        }
+        one_of(word, &[("buy", Side::Buy), ("sell", Side::Sell)])
     }
 }
 
 impl Word for Term {
     fn read(word: &str) -> Result<Term, Unreadable> {
-        match word {
-            "day" => Ok(Term::Day),
-            "ioc" => Ok(Term::ImmediateOrCancel),
-            _ => Err(Unreadable),
-        }
+        one_of(
+            word,
+            &[("day", Term::Day), ("ioc", Term::ImmediateOrCancel)],
+        )
     }
 }
 
 impl Word for Kind {
     fn read(word: &str) -> Result<Kind, Unreadable> {
-        match word {
-            "customer" => Ok(Kind::Customer),
-            "other" => Ok(Kind::Other),
-            "maker" => Ok(Kind::MakerQuote),
-            "specialist" => Ok(Kind::SpecialistQuote),
-            _ => Err(Unreadable),
-        }
+        one_of(
+            word,
+            &[
+                ("customer", Kind::Customer),
+                ("other", Kind::Other),
+                ("maker", Kind::MakerQuote),
+                ("specialist", Kind::SpecialistQuote),
+            ],
+        )
     }
 }
 
@@ -154,10 +156,7 @@ impl<'a> Words<'a> {
     {
         match self.text()? {
             "-" => Ok(None),
-            word => match word.parse::<T>() {
-                Ok(number) => Ok(Some(number)),
-                Err(_) => Err(Unreadable),
-            },
+            word => word.parse::<T>().map(Some).map_err(|_| Unreadable),
         }
     }
 

@@ -19,6 +19,7 @@ pub enum Stop {
     Left,
 }
 
+// Stays two conversions by hand: a derived `From` takes what the variant holds, and `main` would print `Unreadable(Unreadable)`.
 impl From<io::Error> for Stop {
     fn from(e: io::Error) -> Stop {
         Stop::Failed(e)

@@ -12,7 +12,7 @@ use Rattle.rules.specs.Outcome.{bad_price}
 use Rattle.rules.specs.Prices.{is_tick, is_price, national}
 use Rattle.rules.specs.Sides.{is_better}
 use Rattle.rules.specs.Sound.{GoodEntry}
-use Rattle.rules.proofs.Collars.{in_tens, at_tick}
+use Rattle.rules.proofs.Collars.{tens, at_tick}
 
 -- a price that is moved by a multiple of ten cents, and stays in range, is a price
 buyer_price : (r n : ℕ) → n % 10 ≡ 0 → (tick : ℕ) → is_tick tick ≡ true → is_price tick r ≡ true → is_price tick (min 1000000 (r + n)) ≡ true
@@ -30,10 +30,10 @@ module _ (tick : ℕ) (valid : is_tick tick ≡ true) where
   or_tick (Some p) h = not-false (is_price tick p) h
 
   collar_price : (s : Side) (limit : Option ℕ) (r : ℕ) → is_price tick r ≡ true → bad_price tick limit ≡ false → is_price tick (collar_of s tick limit r) ≡ true
-  collar_price Buy limit r price good = buyer_price r (collar_amount r) (in_tens r) tick valid price
+  collar_price Buy limit r price good = buyer_price r (collar_amount r) (tens r) tick valid price
   collar_price Sell limit r price good =
       cond_both (leb (collar_amount r + tick) r) (r - collar_amount r) (unwrap_or limit tick) (λ p. is_price tick p ≡ true)
-      (λ yes. seller_price r (collar_amount r) (in_tens r) tick valid price (leb-true (collar_amount r + tick) r yes))
+      (λ yes. seller_price r (collar_amount r) (tens r) tick valid price (leb-true (collar_amount r + tick) r yes))
       (λ _. or_tick limit good)
 
   pub cap_price : (s : Side) (p reference : Option ℕ) (b : Bool) → (is_some p ≡ false → b ≡ false) → (is_some p ≡ false → is_some reference ≡ true) → bad_price tick p ≡ false → bad_price tick reference ≡ false → is_price tick (unwrap_or (cond b p (cap_at s tick p reference)) 0) ≡ true

@@ -1,5 +1,5 @@
 -- The rulebook's bands, its 25% and its rounding never alter a collar. Assumes nothing.
-use Rattle.std.proofs.Common.{◌≡◌, ℕ, ◌+◌, ◌-◌, ◌*◌, ◌%◌, ◌≤◌, min, true, ◌||◌, eqb, Option, sym, ap, ◌∙◌, subst, ⊎_elim, arith}
+use Rattle.std.proofs.Common.{◌≡◌, ℕ, ◌+◌, ◌-◌, ◌*◌, ◌/◌, ◌%◌, ◌≤◌, min, true, ◌||◌, eqb, Option, sym, ap, ◌∙◌, subst, ⊎_elim, arith}
 use Rattle.std.proofs.lemmas.Bool.{eqb-true, or_cases}
 use Rattle.std.proofs.lemmas.Bool.Decides.{nat_tests}
 use Rattle.rules.specs.declared.terms.Side.{Side}
@@ -13,8 +13,11 @@ band_is : (r : ℕ) → band_amount r ≡ 4 * collar_amount r
 band_is r = grind (arith, nat_tests)
 
 -- the distance is a multiple of ten cents
-pub in_tens : (r : ℕ) → collar_amount r % 10 ≡ 0
-in_tens r = grind (arith, nat_tests)
+pub tens : (r : ℕ) → collar_amount r % 10 ≡ 0
+tens r = grind (arith, nat_tests)
+
+pub in_tens : (r : ℕ) → (k : ℕ) × (collar_amount r ≡ 10 * k)
+in_tens r = (collar_amount r / 10, omega (arith, tens r))
 
 -- what holds of each tick there is holds of every valid one
 pub at_tick : (P : ℕ → Type 0) → P 1 → P 5 → P 10 → (tick : ℕ) → is_tick tick ≡ true → P tick
@@ -33,12 +36,12 @@ module _ (tick r : ℕ) (valid : is_tick tick ≡ true) (price : is_price tick r
   rounds_above : rounded_down tick (4 * r + band_amount r) ≡ r + collar_amount r
   rounds_above =
       let whole : 4 * r + band_amount r ≡ 4 * (r + collar_amount r) = omega (arith, band_is r) in
-      ap (rounded_down tick) whole ∙ rounded_above r (collar_amount r) (in_tens r) tick valid price
+      ap (rounded_down tick) whole ∙ rounded_above r (collar_amount r) (tens r) tick valid price
 
   rounds_below : collar_amount r ≤ r → rounded_down tick (4 * r - band_amount r) ≡ r - collar_amount r
   rounds_below le =
       let whole : 4 * r - band_amount r ≡ 4 * (r - collar_amount r) = omega (arith, band_is r) in
-      ap (rounded_down tick) whole ∙ rounded_below r (collar_amount r) (in_tens r) le tick valid price
+      ap (rounded_down tick) whole ∙ rounded_below r (collar_amount r) (tens r) le tick valid price
 
 -- the theorem: for every valid tick and reference the rulebook's own computation gives this collar
 pub rulebook_gives : (s : Side) (tick : ℕ) (limit : Option ℕ) (r : ℕ) → is_tick tick ≡ true → is_price tick r ≡ true → collar_of s tick limit r ≡ rulebook_collar s tick limit r

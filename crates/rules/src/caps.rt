@@ -4,6 +4,7 @@ ghost use Rattle.rules.specs.Caps.{collar_amount, collar_of, tighter, cap_of};
 ghost use Rattle.rules.specs.Prices.{is_tick, is_price};
 ghost use Rattle.rules.specs.Rulebook.{rulebook_collar};
 
+use crate::prices::HIGHEST_PRICE;
 use crate::terms::{Order, Side};
 
 // How far in cents the collar lies from the reference.
@@ -29,7 +30,7 @@ impl Side {
     {
         let distance = collar_distance(reference);
         match self {
-            Side::Buy => reference.saturating_add(distance).min(1_000_000),
+            Side::Buy => reference.saturating_add(distance).min(HIGHEST_PRICE),
             Side::Sell => reference
                 .checked_sub(distance)
                 .filter(|&below| tick <= below)

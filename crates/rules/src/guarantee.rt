@@ -6,6 +6,7 @@ ghost use Rattle.rules.specs.Guarantee.{guaranteed, group_amount};
 pub fn least_for_the_group(balance: u32) -> u32
     ensures { result ≡ guaranteed balance }
 {
+    // Stays with `as`, here and below: each cast is proved to keep its number, which is all that `From` would say.
     ((balance as u64 * 2 / 5) as u32).max(1)
 }
 

@@ -4,6 +4,9 @@ ghost use Rattle.rules.specs.Prices.{is_tick, is_price, is_size, national, in_ca
 
 use crate::terms::Side;
 
+// In cents.
+pub(crate) const HIGHEST_PRICE: u32 = 1_000_000;
+
 // 1, 5 or 10 cents.
 pub fn valid_tick(tick: u32) -> bool
     ensures { result ≡ is_tick tick }
@@ -16,7 +19,7 @@ pub fn valid_price(tick: u32, price: u32) -> bool
     requires { 0 < tick }
     ensures { result ≡ is_price tick price }
 {
-    (1..=1_000_000).contains(&price) && price % tick == 0
+    (1..=HIGHEST_PRICE).contains(&price) && price % tick == 0
 }
 
 // 1 to 99,999 contracts.

@@ -19,10 +19,18 @@ impl Kind {
 // before others.
 #[derive(Clone, Copy, Debug, PartialEq, Eq, PartialOrd, Ord)]
 pub enum Class {
-    CustomerMarketOrder,
-    OtherMarketOrder,
-    CustomerLimitOrder,
-    OtherInterest,
+    CustomerMarketOrder = 1,
+    OtherMarketOrder = 2,
+    CustomerLimitOrder = 3,
+    OtherInterest = 4,
+}
+
+impl Class {
+    pub fn number(self) -> u8
+        ensures { result ≡ class_number self }
+    {
+        self as u8
+    }
 }
 
 impl Entry {

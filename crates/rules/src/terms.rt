@@ -59,14 +59,15 @@ pub struct Order {
     pub term: Term,
     pub price: Option<u32>,
     pub size: u32,
+    // Stays a number: gateways fill it, and 0 is the rules' own word for no least size.
     pub least: u32,
     pub directed: Option<u16>,
     pub own_firm_mark: bool,
     pub may_route: bool,
 }
 
-// Resting interest. A Market Order rests at its cap and stays a Market Order.
-#[derive(Clone, Copy, Debug, PartialEq, Eq)]
+// Resting interest. A Market Order rests at its cap and stays a Market Order. An unused place of a side holds the default.
+#[derive(Clone, Copy, Debug, Default, PartialEq, Eq)]
 pub struct Entry {
     pub id: u64,
     pub firm: u16,

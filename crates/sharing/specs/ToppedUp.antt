@@ -46,7 +46,7 @@ all_unmap P f (x ∷ xs) ps = (ps.0, all_unmap P f xs ps.1)
 abbrev pub raised : ℕ → List Claim → List Claim
 raised n cs = map one_more (take n cs) ++ drop n cs
 
--- a loop that raises the first claims, at the turn i
+-- raise_each at the turn i: the claims before place i have one contract more, the others are as they were
 module _ (cs ds : List Claim) (i : ℕ) (state : ds ≡ raised i cs) (in' : i < length cs) where
   -- the claim of this turn is as it was
   pub unraised : get_or ds i no_claim ≡ slice_index_or cs i no_claim

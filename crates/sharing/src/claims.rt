@@ -7,7 +7,7 @@ ghost use Rattle.std.proofs.Common.{rules};
 use ranked::Ranking;
 
 // What one maker would trade: its size, its working time, and the contracts that a rule allots to it.
-#[derive(Clone, Copy, Debug, PartialEq, Eq)]
+#[derive(Clone, Copy, Debug, Default, PartialEq, Eq)]
 pub struct Claim {
     pub size: u32,
     pub time: u32,
@@ -15,6 +15,17 @@ pub struct Claim {
 }
 
 impl Claim {
+    // A claim with no allotment yet.
+    pub fn new(size: u32, time: u32) -> Claim
+        ensures { result ≡ record { size = size; time = time; allotment = 0 } }
+    {
+        Claim {
+            size,
+            time,
+            allotment: 0,
+        }
+    }
+
     // The contracts that it would still trade.
     fn left(&self) -> u32
         ensures { result ≡ (remaining self.now).0 }

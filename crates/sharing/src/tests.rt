@@ -4,7 +4,7 @@ ghost use Rattle.sharing.specs.Claims.{Shareable};
 
 use crate::by_time::ByTime;
 use crate::claims::Claim;
-use crate::examples::{claim, worked_examples};
+use crate::examples::worked_examples;
 use crate::pro_rata::SizeProRata;
 use crate::rule::{Rule, share_out};
 use std::process::Abort;
@@ -16,7 +16,7 @@ fn of(size: u32, time: u32) -> Claim
 {
     Claim {
         allotment: 7,
-        ..claim(size, time)
+        ..Claim::new(size, time)
     }
 }
 
@@ -152,9 +152,8 @@ fn fill_largest(claims: &mut [Claim])
     requires { length claims.old ≤ 256 }
     ensures { Shareable 99999 claims.new }
 {
-    // Stays a loop over an index: after one over `iter_mut` and the times, the check knows none of the claims.
-    for i in 0..claims.len() {
-        claims[i] = of(99999, i as u32 + 1);
+    for (i, c) in claims.iter_mut().enumerate() {
+        *c = of(99999, i as u32 + 1);
     }
 }
 

@@ -21,17 +21,6 @@ impl fmt::Display for Price {
     }
 }
 
-// A claim with no allotment yet.
-fn claim(size: u32, time: u32) -> Claim
-    ensures { result ≡ record { size = size; time = time; allotment = 0 } }
-{
-    Claim {
-        size,
-        time,
-        allotment: 0,
-    }
-}
-
 // Shares an amount by a rule, and prints what each claim got, with its floor, and what that makes in all.
 fn show<R: Rule>(
     rt: &impl Print,
@@ -57,7 +46,10 @@ fn show<R: Rule>(
     println!(rt; "all,{sizes},{floors},{shared}")
 }
 
-// Prints the collar and the cap that a Day order gets at a reference, where the tick is 5 cents.
+// In cents.
+const TICK: u32 = 5;
+
+// Prints the collar and the cap that a Day order gets at a reference.
 fn show_cap(rt: &impl Print, side: Side, price: Option<u32>, reference: u32) -> io::Result<()> {
     let order = Order {
         id: 1,
@@ -78,8 +70,8 @@ fn show_cap(rt: &impl Print, side: Side, price: Option<u32>, reference: u32) -> 
         Side::Sell => "sell",
     };
     let limit = Price(price);
-    let collar = side.collar(5, price, reference);
-    let cap = Price(order.cap(5, Some(reference)));
+    let collar = side.collar(TICK, price, reference);
+    let cap = Price(order.cap(TICK, Some(reference)));
     println!(rt; "{name},{limit},{reference},{collar},{cap}")
 }
 
@@ -94,7 +86,12 @@ fn show_caps(rt: &impl Print) -> io::Result<()> {
 }
 
 fn main(rt: HostRuntime) -> io::Result<()> {
-    let mut claims = [claim(100, 1), claim(200, 2), claim(500, 3), claim(3, 4)];
+    let mut claims = [
+        Claim::new(100, 1),
+        Claim::new(200, 2),
+        Claim::new(500, 3),
+        Claim::new(3, 4),
+    ];
     show(&rt, "time", &ByTime, 101, &mut claims)?;
     println!(rt)?;
     show(&rt, "size pro rata", &SizeProRata, 101, &mut claims)?;

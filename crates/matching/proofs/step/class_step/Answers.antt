@@ -8,5 +8,5 @@ step-requires g c = record {
   shareable = class_shareable (g.R.Rule.meaning c.args.rule.now) (g.met.R.Rule.lawful c.args.rule.now) (class_number c.args.class) c.requires.tradable;
   amount = omega arith;
   sheet = c.requires.sheet;
-  room = rw c.step_of-name.ensures c.requires.room;
+  room = c.requires.room;
 }

@@ -1,21 +1,25 @@
-use Rattle.std.proofs.Common.{◌≤◌, map, length, take, sym, ap, ◌∙◌, subst, arith}
+use Rattle.std.proofs.Common.{◌+◌, ◌≤◌, map, length, take, sym, ap, ◌∙◌, subst, arith}
 use Rattle.std.specs.List.{AllZip}
 use Rattle.std.proofs.lemmas.List.{set-get_or}
 use Rattle.sharing.specs.Claims.{allotment_of}
 use Rattle.rules.specs.Level.{size_of}
-use Rattle.matching.specs.Parts.{is_live, part_test, takes_part}
+use Rattle.matching.specs.Parts.{is_live, part_test, step_for, takes_part}
 use Rattle.matching.specs.Tapes.{Writes}
-use Rattle.matching.proofs.Paid.{numbers, left_live, lines_live, paid_none, paid_run, paid_writes, turn_other, turn_within, turn_room, turn_nothing, turn_some}
+use Rattle.matching.proofs.Paid.{numbers, lines_of, left_live, lines_live, paid_none, paid_run, paid_writes, turn_other, turn_within, turn_room, turn_nothing, turn_some}
 use Rattle.matching.proofs.Runs.{no_entry}
 use Rattle.matching.proofs.Shown.{kept_twice}
 use Rattle.matching.proofs.step.pay.Goals as goal
-use Rattle.matching.proofs.step.pay.Goals.{then-takes+then-size-gt0, then-takes+else-size-gt0, else-takes}
+use Rattle.matching.proofs.step.pay.Goals.{Start, then-takes+then-size-gt0, then-takes+else-size-gt0, else-takes}
+
+-- the tape has room for the fills, also where entries that are gone are looked at
+room : (c : Start) → c.args.lent.now.lines + length (lines_of (step_for c.args.part) (takes_part (part_test c.args.part)) (numbers c.args.lent.now) c.args.run.now) ≤ length c.args.lent.now.tape.now
+room c = omega (arith, c.requires.room, ap length (lines_live (step_for c.args.part) (part_test c.args.part) (numbers c.args.lent.now) c.args.run.now))
 
 pub loop-e-init : goal.loop-e-init
 loop-e-init c =
     let t = part_test c.args.part in
     let same = kept_twice is_live t c.args.run.now in
-    paid_none c.args.step (takes_part t) c.args.run.now c.args.lent.now
+    paid_none (step_for c.args.part) (takes_part t) c.args.run.now c.args.lent.now
     (subst (λ l. length l ≤ length c.args.lent.now.sheet.now) same c.requires.claims)
     (subst (λ l. AllZip ◌≤◌ (map allotment_of (take (length l) c.args.lent.now.sheet.now)) (map size_of l)) same c.requires.within)
 
@@ -23,7 +27,7 @@ loop-e-init c =
 pub write-requires : goal.write-requires
 write-requires c = record {
   room = turn_room c.loop-e.invariant (omega arith) (sym c.takes.ensures ∙ c.if-takes.true) c.if-size-gt0.true
-      (omega (arith, c.requires.room, ap length (lines_live (part_test c.args.part) c.args.step (numbers c.args.lent.now) c.args.run.now)));
+      (room (goal.at.write-requires c).Start);
 }
 
 pub overflow_sub-e : goal.overflow_sub-e
@@ -31,12 +35,11 @@ overflow_sub-e c = turn_within c.loop-e.invariant (omega arith) (sym c.takes.ens
 
 pub loop-e-preserved : goal.loop-e-preserved
 loop-e-preserved c =
-    let t = part_test c.args.part in
     elim c.if-takes.branch [
       | then-takes+then-size-gt0 w ↦ rw (w.run-is, w.lent-is, w.j-is)
           (turn_some c.loop-e.invariant (omega arith) (sym c.takes.ensures ∙ w.if-takes.true) w.if-size-gt0.true
-          (omega (arith, c.requires.room, ap length (lines_live t c.args.step (numbers c.args.lent.now) c.args.run.now)))
-          w.write.ensures.writes w.write.ensures.claims)
+          (room (goal.at.loop-e-preserved c).Start)
+          (rw w.step.ensures at w.write.ensures.writes) w.write.ensures.claims)
       | then-takes+else-size-gt0 w ↦ rw (w.run-is, w.lent-is, w.j-is, set-get_or c.loop-e.run c.loop-e.e-index no_entry)
           (turn_nothing c.loop-e.invariant (omega arith) (sym c.takes.ensures ∙ w.if-takes.true) w.if-size-gt0.false)
       | else-takes w ↦ rw (w.run-is, w.lent-is, w.j-is, set-get_or c.loop-e.run c.loop-e.e-index no_entry)
@@ -48,7 +51,7 @@ returns c =
     let t = part_test c.args.part in
     let lent = c.args.lent.now in
     record {
-      run = paid_run c.loop-e.invariant (omega arith) ∙ left_live t c.args.step (numbers lent) c.args.run.now;
+      run = paid_run c.loop-e.invariant (omega arith) ∙ left_live t (numbers lent) c.args.run.now;
       places = c.loop-e.auto.run;
-      writes = subst (λ l. Writes l lent c.loop-e.lent) (lines_live t c.args.step (numbers lent) c.args.run.now) (paid_writes c.loop-e.invariant (omega arith));
+      writes = subst (λ l. Writes l lent c.loop-e.lent) (lines_live (step_for c.args.part) t (numbers lent) c.args.run.now) (paid_writes c.loop-e.invariant (omega arith));
     }

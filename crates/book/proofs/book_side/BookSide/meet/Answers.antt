@@ -5,7 +5,7 @@ use Rattle.rules.specs.Walk.{runs}
 use Rattle.rules.proofs.AllPrices.{all_prices}
 use Rattle.rules.proofs.Leaves.{runs_are_whole}
 use Rattle.matching.specs.Walks.{walked}
-use Rattle.book.specs.Orders.{InOrder}
+use Rattle.book.specs.Ordering.{InOrder}
 use Rattle.book.specs.Sides.{OneSide}
 use Rattle.book.proofs.Puts.{left_in_order}
 use Rattle.book.proofs.book_side.BookSide.meet.Goals as goal

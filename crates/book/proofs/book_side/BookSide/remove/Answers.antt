@@ -2,7 +2,7 @@ use Rattle.std.proofs.Common.{◌<◌, length, sym, subst}
 use Rattle.ranked.specs.Elements.{elements}
 use Rattle.ranked.specs.Ranked.{ahead}
 use Rattle.rules.specs.Ranks.{rank_of, rank_before}
-use Rattle.book.specs.Orders.{InOrder}
+use Rattle.book.specs.Ordering.{InOrder}
 use Rattle.book.specs.Sides.{OneSide}
 use Rattle.book.proofs.Puts.{within_removed}
 use Rattle.book.proofs.book_side.BookSide.remove.Goals as goal
@@ -10,8 +10,8 @@ use Rattle.book.proofs.book_side.BookSide.remove.Goals as goal
 pub invariant_of-self : goal.invariant_of-self
 invariant_of-self c =
     let l = c.self.inside.list in
-    let after = c.remove-gone.ensures in
+    let after = c.remove.ensures in
     record {
-      within = within_removed c.remove-gone.result l.len c.args.at l.places.now _ _ c.self.invariant.within (subst (λ (s : OneSide). c.args.at < length s.entries) (sym c.self.view_is) c.requires) after.places after.len;
-      in_order = subst (λ s. InOrder s (elements c.remove-gone.new.self)) (sym after.ranking) (after.keeps (ahead rank_before (λ _. rank_of) l.ranking) c.self.invariant.in_order);
+      within = within_removed c.remove.result l.len c.args.at l.places.now _ _ c.self.invariant.within (subst (λ (s : OneSide). c.args.at < length s.entries) (sym c.self.view_is) c.requires) after.places after.len;
+      in_order = subst (λ s. InOrder s (elements c.remove.new.self)) (sym after.ranking) (after.keeps (ahead rank_before (λ _. rank_of) l.ranking) c.self.invariant.in_order);
     }

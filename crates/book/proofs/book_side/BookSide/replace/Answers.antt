@@ -1,7 +1,7 @@
 use Rattle.std.proofs.Common.{◌≡◌, length, get_or, take, set, sym, ap, ◌∙◌, subst, arith}
 use Rattle.std.proofs.lemmas.List.{length-set}
 use Rattle.rules.specs.Ranks.{rank_of}
-use Rattle.book.specs.Orders.{InOrder}
+use Rattle.book.specs.Ordering.{InOrder}
 use Rattle.book.specs.Sides.{OneSide, with_list}
 use Rattle.book.proofs.Finding.{take_of_set}
 use Rattle.book.proofs.Puts.{set_in_order}

@@ -17,7 +17,7 @@ invariant_of-self-2 g c =
     let m = c.self.inside.state in
     let u : Entering = record { order = c.args.order.now; tape = length c.args.tape.now - 0; sheet = length c.args.sheet.now } in
     let rule = g.R.Rule.meaning c.args.rule.now in
-    settled_sound {A = Bool} (entry_of rule u m) m c.enter.result c.enter.new.self (λ d routed. routed ≡ is_some d.ticket) c.self.invariant (kept.entry rule u m c.self.invariant) c.enter.ensures.outcome
+    settled_sound {A = Bool} (entry_of rule u m) m c.enter.result c.enter.new.self (λ d routed. routed ≡ is_some d.ticket) c.self.invariant (kept.entry rule u m c.self.invariant) (rw c.new-lent.ensures at c.enter.ensures.outcome)
 
 pub returns-clause-lawful : goal.returns-clause-lawful
 returns-clause-lawful g c = λ keeps. stays_lawful c.args.self.now (enters (record { shares = g.R.Rule.meaning c.args.rule.now; keeps = keeps }) (record { order = c.args.order.now; tape = length c.args.tape.now; sheet = length c.args.sheet.now }))
@@ -32,8 +32,8 @@ returns-clause-outcome g c =
     (subst (λ x. Settles {A = Accepted} (entry_of rule u x) x (Ok (record { lines = c.enter.new.lent.lines; ticket = c.ticket_for-ticket.result })) c.enter.new.self (λ d a. (a.lines ≡ d.answer) × Gives x.opening.series d.ticket a.ticket)) c.self.view_is
     (settles_other (entry_of rule u c.self.inside.state) c.self.inside.state c.enter.new.self c.in_ok-routed.routed _ (λ d routed. routed ≡ is_some d.ticket) (λ d a. (a.lines ≡ d.answer) × Gives c.self.inside.state.opening.series d.ticket a.ticket)
     (λ d is went. (
-      entry_lines rule u c.self.inside.state _ _ c.enter.ensures.tapes refl d is,
+      entry_lines rule u c.self.inside.state _ _ (rw c.new-lent.ensures at c.enter.ensures.tapes) refl d is,
       entry_gives rule u c.self.inside.state d is c.in_ok-routed.routed went c.self.inside.state.opening.series c.ticket_for-ticket.result
           (subst (λ n. Gives n (cond c.in_ok-routed.routed (Some c.args.order.now.id) None) c.ticket_for-ticket.result) (ap (λ x. x.state.opening.series) c.self-inside.view_is) c.ticket_for-ticket.ensures),
     ))
-    accepted.outcome))
+    (rw c.new-lent.ensures at accepted.outcome)))

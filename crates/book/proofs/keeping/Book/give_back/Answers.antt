@@ -13,7 +13,7 @@ invariant_of-self-2 g c =
     let m = c.self.inside.state in
     let u : Returning = record { series = c.args.ticket.series; id = c.args.ticket.id; executed = c.args.executed; tape = length c.args.tape.now - 0; sheet = length c.args.sheet.now } in
     let rule = g.R.Rule.meaning c.args.rule.now in
-    settled_sound {A = Unit {0}} (return_of rule u m) m c.give_back.result c.give_back.new.self (λ d a. Unit {0}) c.self.invariant (kept.return rule u m c.self.invariant) c.give_back.ensures.outcome
+    settled_sound {A = Unit {0}} (return_of rule u m) m c.give_back.result c.give_back.new.self (λ d a. Unit {0}) c.self.invariant (kept.return rule u m c.self.invariant) (rw c.new-lent.ensures at c.give_back.ensures.outcome)
 
 pub returns-in-Err-clause-lawful : goal.returns-in-Err-clause-lawful
 returns-in-Err-clause-lawful g c = λ keeps. stays_lawful c.args.self.now (returning (record { shares = g.R.Rule.meaning c.args.rule.now; keeps = keeps }) (record { series = c.args.ticket.series; id = c.args.ticket.id; executed = c.args.executed; tape = length c.args.tape.now; sheet = length c.args.sheet.now }))
@@ -27,4 +27,4 @@ returns-clause-outcome g c =
     let rule = g.R.Rule.meaning c.args.rule.now in
     subst (λ n. ReturnsAs (return_of rule (record u { tape = n }) c.args.self.now) c.args.self.now c.args.ticket (Ok c.give_back.new.lent.lines) c.give_back.new.self) (less_none (length c.args.tape.now))
     (subst (λ x. ReturnsAs (return_of rule u x) x c.args.ticket (Ok c.give_back.new.lent.lines) c.give_back.new.self) c.self.view_is
-    (returns_done (return_of rule u c.self.inside.state) c.self.inside.state c.give_back.new.self c.args.ticket c.give_back.new.lent.lines (subst (λ r. Settles {A = Unit {0}} (return_of rule u c.self.inside.state) c.self.inside.state r c.give_back.new.self (λ d a. Unit {0})) c.in_default.is c.give_back.ensures.outcome) (λ d is. return_lines rule u c.self.inside.state _ _ c.give_back.ensures.tapes refl d is)))
+    (returns_done (return_of rule u c.self.inside.state) c.self.inside.state c.give_back.new.self c.args.ticket c.give_back.new.lent.lines (subst (λ r. Settles {A = Unit {0}} (return_of rule u c.self.inside.state) c.self.inside.state r c.give_back.new.self (λ d a. Unit {0})) c.in_default.is (rw c.new-lent.ensures at c.give_back.ensures.outcome)) (λ d is. return_lines rule u c.self.inside.state _ _ (rw c.new-lent.ensures at c.give_back.ensures.tapes) refl d is)))

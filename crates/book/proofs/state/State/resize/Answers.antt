@@ -35,15 +35,14 @@ returns-then-size-e c =
     let size = sym c.valid_size.ensures ∙ c.if-not-valid_size.false in
     settles_smaller k m _ c.in_ok-own.own c.if-firm-eq0.false size c.requires c.in_ok-own.ensures c.if-size-e.true c.replace.ensures
 
-pub returns-then-last-gt4000000000 : goal.returns-then-last-gt4000000000
-returns-then-last-gt4000000000 c =
+pub returns-then-last_time_reached : goal.returns-then-last_time_reached
+returns-then-last_time_reached c =
     let m = c.args.self.now in
     let k : Resizing = record { id = c.args.id; firm = c.args.firm; size = c.args.size } in
     let own = c.in_ok-own.own in
     let its = c.in_ok-own.ensures in
     let size = sym c.valid_size.ensures ∙ c.if-not-valid_size.false in
-    let last = ap (λ (x : Model). x.counters.last_time) c.self.view_is in
-    refuses (resize_of k m) LastTimeReached m (no_time k m c.if-firm-eq0.false size own.side own.entry its.stands its.firm_is (omega (arith, c.if-size-e.false)) (omega (arith, last, c.if-last-gt4000000000.true)))
+    refuses (resize_of k m) LastTimeReached m (no_time k m c.if-firm-eq0.false size own.side own.entry its.stands its.firm_is (omega (arith, c.if-size-e.false)) (sym c.last_time_reached.ensures ∙ c.if-last_time_reached.true))
 
 pub returns : goal.returns
 returns c =
@@ -53,7 +52,7 @@ returns c =
     let last = ap (λ (x : Model). x.counters.last_time) c.self.view_is in
     let own = c.in_ok-own.own in
     let gone = c.remove.new.self in
-    settles_larger k m _ own c.if-firm-eq0.false size c.requires c.in_ok-own.ensures gone (omega (arith, c.if-size-e.false)) (omega (arith, last, c.if-last-gt4000000000.false)) c.remove.ensures (c.insert.ensures ∙ ap (λ t. with_last_time (t + 1) (with_entries own.side (ranked_in own.side (enlarged k.size (t + 1) own.entry) (entries own.side gone)) gone)) last)
+    settles_larger k m _ own c.if-firm-eq0.false size c.requires c.in_ok-own.ensures gone (omega (arith, c.if-size-e.false)) (sym c.last_time_reached.ensures ∙ c.if-last_time_reached.false) c.remove.ensures (c.insert.ensures ∙ ap (λ t. with_last_time (t + 1) (with_entries own.side (ranked_in own.side (enlarged k.size (t + 1) own.entry) (entries own.side gone)) gone)) last)
 
 pub replace-requires : goal.replace-requires
 replace-requires c = record { within = c.in_ok-own.ensures.within; rank = ap rank_of (c.in_ok-own.ensures.entry _) }
