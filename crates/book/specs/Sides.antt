@@ -18,7 +18,7 @@ one_side s m = record { side = s; entries = entries s m; places = places s m; aw
 
 -- the side with other entries
 abbrev pub with_list : List Entry → OneSide → OneSide
-with_list es s = record { side = s.side; entries = es; places = s.places; away = s.away }
+with_list es s = record s { entries = es }
 
 -- the national best price on the side: the better of its first entry's price and the away price
 abbrev pub nation : OneSide → Option ℕ

@@ -29,11 +29,7 @@ fn gather(part: Part, run: &[Entry], sheet: &mut [Claim]) -> usize
     // Stays: after a zip over `iter_mut` a proof knows how many claims the sheet has, and not which.
     for e in run {
         if part.takes(e) {
-            sheet[n] = Claim {
-                size: e.size,
-                time: e.time,
-                allotment: 0,
-            };
+            sheet[n] = Claim::new(e.size, e.time);
             n += 1;
         }
     }

@@ -66,7 +66,7 @@ pub struct Order {
     pub may_route: bool,
 }
 
-// Resting interest. A Market Order rests at its cap and stays a Market Order. An unused place of a side holds the default.
+// Resting interest. A Market Order rests at its cap and stays a Market Order. A host may fill free places with the default.
 #[derive(Clone, Copy, Debug, Default, PartialEq, Eq)]
 pub struct Entry {
     pub id: u64,

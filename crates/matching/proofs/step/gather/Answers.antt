@@ -13,7 +13,7 @@ loop-e-preserved c =
     let run = c.args.run.now in
     let i = c.loop-e.e-index in
     elim c.if-takes.branch [
-      | then-takes w ↦ rw (w.sheet-is, w.n-is) (gathered_more t run c.loop-e.sheet i c.loop-e.n c.loop-e.invariant c.loop-e-test.true (omega (arith, c.loop-e.invariant.behind)) (sym c.takes.ensures ∙ w.if-takes.true))
+      | then-takes w ↦ rw (w.sheet-is, w.n-is, w.new.ensures) (gathered_more t run c.loop-e.sheet i c.loop-e.n c.loop-e.invariant c.loop-e-test.true (omega (arith, c.loop-e.invariant.behind)) (sym c.takes.ensures ∙ w.if-takes.true))
       | else-takes w ↦ rw (w.sheet-is, w.n-is) (gathered_past t run c.loop-e.sheet i c.loop-e.n c.loop-e.invariant c.loop-e-test.true (sym c.takes.ensures ∙ w.if-takes.false))
     ]
 
