@@ -1,7 +1,8 @@
 -- What an order that has traded comes to. Assumes nothing.
-use Rattle.std.proofs.Common.{◌≡◌, ℕ, ◌+◌, ◌<◌, ◌≤◌, Bool, true, false, cond, ◌&&◌, eqb, leb, [], ◌∷◌, ◌++◌, length, is_some, sym, refl, ap, ◌∙◌, subst, arith}
+use Rattle.std.proofs.Common.{◌≡◌, ℕ, ◌+◌, ◌<◌, ◌≤◌, Bool, true, false, cond, ◌&&◌, eqb, leb, [], ◌∷◌, ◌++◌, length, Option, sym, refl, ap, ◌∙◌, subst, arith}
 use Rattle.std.proofs.lemmas.List.{length_push}
-use Rattle.std.proofs.lemmas.Bool.{false≢true, leb-false}
+use Rattle.std.proofs.lemmas.Bool.Decides.{nat_tests}
+use Rattle.std.proofs.lemmas.Bool.{leb-false}
 use Rattle.sharing.specs.Sharing.{Sharing}
 use Rattle.rules.specs.declared.numbers.Cause.TheVariants.{Immediate, AwayPrice, NoPlaceOnReturn}
 use Rattle.rules.specs.declared.tape.Line.{Line}
@@ -14,7 +15,7 @@ use Rattle.rules.specs.Model.{Model, entries, away, places, with_entries}
 use Rattle.rules.specs.Outcome.{longer_side}
 use Rattle.rules.specs.Sides.{other_side}
 use Rattle.rules.specs.Sound.{Sound}
-use Rattle.rules.specs.Trade.{Ending, away_in_cap, ending, end_line, ended, ticket_of, traded, finished, trade}
+use Rattle.rules.specs.Trade.{Ending, away_in_cap, ending, end_line, ended, ticket_of, sized, traded, finished, trade}
 use Rattle.rules.specs.Trade.Ending.{is_filled, is_routed, is_cancelled, rests}
 use Rattle.rules.proofs.CallsKeep.{same_book}
 use Rattle.rules.proofs.Moves.{good_side}
@@ -22,6 +23,7 @@ use Rattle.matching.specs.Tapes.{Writes}
 use Rattle.matching.specs.declared.lent.Lent.{Lent}
 use Rattle.matching.proofs.Written.{writes_twice}
 use Rattle.book.specs.Endings.{routes}
+use Rattle.book.specs.Entries.{Does}
 use Rattle.book.proofs.Meets.{traded_short}
 
 abbrev stays : Ending → Bool
@@ -36,23 +38,11 @@ first_of spent near may ioc full = cond spent is_filled (cond (near && may) is_r
 
 -- only an order that may go out does
 may_go : (spent near may ioc full : Bool) → routes (first_of spent near may ioc full) ≡ true → may ≡ true
-may_go true near may ioc full h = absurd (false≢true h)
-may_go false near true ioc full h = refl
-may_go false true false true full h = absurd (false≢true h)
-may_go false true false false full h = absurd (false≢true h)
-may_go false false false true full h = absurd (false≢true h)
-may_go false false false false true h = absurd (false≢true h)
-may_go false false false false false h = absurd (false≢true h)
+may_go spent near may ioc full h = grind (arith, nat_tests)
 
 -- only an order for which there is a place rests
 has_place : (spent near may ioc full : Bool) → stays (first_of spent near may ioc full) ≡ true → full ≡ false
-has_place spent near may ioc false h = refl
-has_place true near may ioc true h = absurd (false≢true h)
-has_place false true true ioc true h = absurd (false≢true h)
-has_place false true false true true h = absurd (false≢true h)
-has_place false true false false true h = absurd (false≢true h)
-has_place false false may true true h = absurd (false≢true h)
-has_place false false may false true h = absurd (false≢true h)
+has_place spent near may ioc full h = grind (arith, nat_tests)
 
 pub routed_may : (o : Routed) (may : Bool) (b : ℕ) (m : Model) (e : Ending) → e ≡ ending o may b m → e ≡ is_routed → may ≡ true
 unfolding ending
@@ -67,12 +57,6 @@ rests_room o may b m e ends is =
 places_within : (s : Side) (m : Model) → places s m ≤ longer_side m
 places_within Buy m = omega arith
 places_within Sell m = omega arith
-
-ticket_is : (o : Routed) (e : Ending) → routes e ≡ is_some (ticket_of o e)
-ticket_is o is_filled = refl
-ticket_is o is_routed = refl
-ticket_is o (is_cancelled why) = refl
-ticket_is o rests = refl
 
 module _ (rule : Sharing) (o : Routed) (m : Model) where
   abbrev deal : Deal
@@ -94,20 +78,26 @@ module _ (rule : Sharing) (o : Routed) (m : Model) where
     pub left_out : m'.out ≡ m.out
     left_out = ap (λ k. k.out) same ∙ (same_book o.side deal.run m).2
 
-    module _ (may : Bool) {b : ℕ} {e : Ending} (spent : b ≡ deal.balance) (ends : e ≡ ending o may b m') where
+    -- an end does not look at the size that the order came with
+    of_sized : (e : Ending) → (ended (sized deal.balance o) deal.balance e left ≡ ended o deal.balance e left) × (ticket_of (sized deal.balance o) e ≡ ticket_of o e) × (end_line (sized deal.balance o) deal.balance e ≡ end_line o deal.balance e)
+    of_sized is_filled = (refl, refl, refl)
+    of_sized is_routed = (refl, refl, refl)
+    of_sized (is_cancelled why) = (refl, refl, refl)
+    of_sized rests = (refl, refl, refl)
+
+    -- what is left of the order comes to its end
+    module _ (may : Bool) {l : Routed} {e : Ending} (rest : l ≡ sized deal.balance o) (ends : e ≡ ending l may l.size m') where
       end_is : e ≡ comes_to may
-      end_is = ends ∙ (λ t. ending o may (spent t) (same t))
+      unfolding ending
+      end_is = ends ∙ (λ t. ending (rest t) may (rest t).size (same t))
 
-      pub trade_after : {m'' : Model} → m'' ≡ ended o b e m' → m'' ≡ (trade rule o may m).after
+      pub traded_on : {m'' : Model} {r : Option ℕ} {last : Line} {a b' c' : Lent} → Writes deal.lines a b' → last ≡ end_line l l.size e → Writes (last ∷ []) b' c' → a.lines + length deal.lines + 1 ≤ length a.tape.now
+          → m'' ≡ ended l l.size e m' → r ≡ ticket_of l e → Does (trade rule o may m) m'' r a c'
       unfolding trade finished
-      trade_after after = after ∙ (λ t. ended o (spent t) (end_is t) (same t))
-
-      pub trade_routed : {r : Bool} → r ≡ routes e → r ≡ is_some (trade rule o may m).ticket
-      unfolding trade finished
-      trade_routed out = out ∙ ap routes end_is ∙ ticket_is o (comes_to may)
-
-      pub trade_writes : {l : Line} {a b' c' : Lent} → Writes deal.lines a b' → l ≡ end_line o b e → Writes (l ∷ []) b' c' → a.lines + length deal.lines + 1 ≤ length a.tape.now → Writes (trade rule o may m).lines a c'
-      unfolding trade finished
-      trade_writes {l} {a} {b'} {c'} first told last room =
-          subst (λ x. Writes (deal.lines ++ x ∷ []) a c') (told ∙ (λ t. end_line o (spent t) (end_is t)))
-          (writes_twice first last (omega (arith, room, length_push deal.lines l)))
+      traded_on {m''} {r} {last} {a} {b'} {c'} first told end room after out =
+          let same_end = of_sized (comes_to may) in
+          record {
+            book = after ∙ (λ t. ended (rest t) (rest t).size (end_is t) (same t)) ∙ same_end.0;
+            ticket = out ∙ (λ t. ticket_of (rest t) (end_is t)) ∙ same_end.1;
+            writes = subst (λ x. Writes (deal.lines ++ x ∷ []) a c') (told ∙ (λ t. end_line (rest t) (rest t).size (end_is t)) ∙ same_end.2) (writes_twice first end (omega (arith, room, length_push deal.lines last)));
+          }

@@ -1,6 +1,7 @@
--- The first with an id in a list, the list without it, and the first places after a write. Assumes nothing.
-use Rattle.std.proofs.Common.{◌≡◌, Bool, ℕ, zero, suc, ◌+◌, ◌<◌, ◌≤◌, true, false, not, eqb, ltb, List, [], ◌∷◌, length, get_or, take, set, is_some, Some, None, filter, sym, refl, ap, ◌∙◌, ⊎_elim, arith}
+-- The first with an id in a list, and the list without it. Assumes nothing.
+use Rattle.std.proofs.Common.{◌≡◌, Bool, ℕ, zero, suc, ◌+◌, ◌<◌, ◌≤◌, true, false, not, eqb, ltb, List, [], ◌∷◌, length, get_or, is_some, Some, None, filter, sym, refl, ap, ◌∙◌, ⊎_elim, arith}
 use Rattle.std.specs.List.{position, position_or_len, remove}
+use Rattle.std.proofs.lemmas.Bool.Decides.{nat_tests}
 use Rattle.std.proofs.lemmas.Bool.{cases_Bool, cond-true, cond-false, not_from_true, not_from_false, eq-eqb, ltb-false, true≢false}
 use Rattle.std.proofs.lemmas.List.Quantifiers.{position-Some}
 use Rattle.sharing.specs.Totals.{one_if, count}
@@ -40,11 +41,7 @@ module _ {X : Type 0} (id : X → ℕ) (i : ℕ) where
 module _ {X : Type 0} (id : X → ℕ) (i : ℕ) where
   others_all : (xs : List X) → count (λ x. eqb (id x) i) xs ≡ 0 → filter (λ x. not (eqb (id x) i)) xs ≡ xs
   others_all [] none = refl
-  others_all (x ∷ xs) none =
-      ⊎_elim
-      (λ here. absurd (let one = ap one_if here in omega arith))
-      (λ away. let zero = ap one_if away in cond-true (not (eqb (id x) i)) (x ∷ filter (λ y. not (eqb (id y) i)) xs) (filter (λ y. not (eqb (id y) i)) xs) (not_from_false (eqb (id x) i) away) ∙ ap (λ ys. x ∷ ys) (others_all xs (omega arith)))
-      (cases_Bool (eqb (id x) i))
+  others_all (x ∷ xs) none = grind (arith, nat_tests, others_all xs)
 
   pub counted_at : (xs : List X) (k : ℕ) (d : X) → k < length xs → id (get_or xs k d) ≡ i → 1 ≤ count (λ x. eqb (id x) i) xs
   counted_at [] k d lt is = absurd (omega arith)
@@ -53,20 +50,5 @@ module _ {X : Type 0} (id : X → ℕ) (i : ℕ) where
 
   pub removed_others : (xs : List X) (k : ℕ) (d : X) → k < length xs → id (get_or xs k d) ≡ i → count (λ x. eqb (id x) i) xs ≤ 1 → remove xs k ≡ filter (λ x. not (eqb (id x) i)) xs
   removed_others [] k d lt is once = absurd (omega arith)
-  removed_others (x ∷ xs) zero d lt is once =
-      let here = eq-eqb (id x) i is in
-      let one = ap one_if here in
-      sym (cond-false (not (eqb (id x) i)) (x ∷ filter (λ y. not (eqb (id y) i)) xs) (filter (λ y. not (eqb (id y) i)) xs) (not_from_true (eqb (id x) i) here) ∙ others_all xs (omega arith))
-  removed_others (x ∷ xs) (suc k) d lt is once =
-      let behind = counted_at xs k d (omega arith) is in
-      ⊎_elim
-      (λ here. absurd (let one = ap one_if here in omega arith))
-      (λ away. let none = ap one_if away in ap (λ ys. x ∷ ys) (removed_others xs k d (omega arith) is (omega arith)) ∙ sym (cond-true (not (eqb (id x) i)) (x ∷ filter (λ y. not (eqb (id y) i)) xs) (filter (λ y. not (eqb (id y) i)) xs) (not_from_false (eqb (id x) i) away)))
-      (cases_Bool (eqb (id x) i))
-
--- the first places after a write
-pub take_of_set : {X : Type 0} (n : ℕ) (xs : List X) (k : ℕ) (y : X) → take n (set xs k y) ≡ set (take n xs) k y
-take_of_set zero xs k y = refl
-take_of_set (suc n) [] k y = refl
-take_of_set (suc n) (x ∷ xs) zero y = refl
-take_of_set (suc n) (x ∷ xs) (suc k) y = ap (λ zs. x ∷ zs) (take_of_set n xs k y)
+  removed_others (x ∷ xs) zero d lt is once = grind (arith, nat_tests, others_all xs)
+  removed_others (x ∷ xs) (suc k) d lt is once = grind (arith, nat_tests, counted_at xs k d, removed_others xs k d)

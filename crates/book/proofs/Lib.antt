@@ -1,11 +1,9 @@
 pub mod Cancelled
 pub mod Contracts
-pub mod Edited
 pub mod Ends
 pub mod Entered
 pub mod Finding
 pub mod Meets
-pub mod Opened
 pub mod Puts
 pub mod Resized
 pub mod Returned

@@ -10,16 +10,12 @@ use Rattle.rules.specs.declared.terms.Side.{Side}
 use Rattle.rules.specs.Model.{ranked_in}
 use Rattle.rules.specs.Ranks.{rank_of, rank_before}
 use Rattle.rules.specs.Laws.{LeftOf}
-use Rattle.rules.specs.Laws.LeftOf.{none, gone, same, fewer}
-use Rattle.rules.proofs.LeftOver.{all_left_of}
+use Rattle.rules.proofs.LeftOver.{each_left_of}
 use Rattle.book.specs.Ordering.{InOrder}
 
 -- entries that are left stay in order
 pub left_in_order : (s : Side) {es fs : List Entry} → LeftOf es fs → InOrder s es → InOrder s fs
-left_in_order s none o = tt
-left_in_order s (gone g) o = left_in_order s g o.1
-left_in_order s (same {e} g) o = (all_left_of (λ f. rank_before s (rank_of f) (rank_of e) ≡ false) (λ n f one le h. h) g o.0, left_in_order s g o.1)
-left_in_order s (fewer {e} n one le g) o = (all_left_of (λ f. rank_before s (rank_of f) (rank_of e) ≡ false) (λ m f one' le' h. h) g o.0, left_in_order s g o.1)
+left_in_order s g = each_left_of (λ e f. rank_before s (rank_of f) (rank_of e) ≡ false) (λ n e f h. (h, h)) g
 
 -- so does an entry of the same rank in the place of one
 module _ (s : Side) (e : Entry) where

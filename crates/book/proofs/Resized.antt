@@ -1,96 +1,56 @@
 -- What a size change comes to, by where the order is. Assumes nothing.
-use Rattle.std.proofs.Common.{◌≡◌, ℕ, zero, suc, ◌+◌, ◌<◌, ◌≤◌, true, false, cond, not, ◌&&◌, eqb, ltb, List, [], ◌∷◌, length, get_or, set, Some, None, Ok, sym, refl, ap, ◌∙◌, ⊎_elim, arith}
+use Rattle.std.proofs.Common.{◌≡◌, ℕ, zero, suc, ◌+◌, ◌<◌, ◌≤◌, true, false, cond, not, ◌&&◌, eqb, ltb, List, [], ◌∷◌, length, get_or, set, None, Ok, sym, refl, ap, ◌∙◌, subst, arith}
 use Rattle.std.specs.List.{remove}
-use Rattle.std.proofs.lemmas.Bool.{cases_Bool, cond-true, cond-false, eq-eqb, lt-ltb, le-ltb, and_from, and_left, and_right, not_from_true, not_from_false}
-use Rattle.sharing.specs.Totals.{one_if, count}
-use Rattle.rules.specs.declared.numbers.Refusal.{Refusal}
+use Rattle.std.proofs.lemmas.Bool.Decides.{nat_tests}
+use Rattle.std.proofs.lemmas.Bool.{ne_eqb, cond-true, cond-false, eq-eqb, lt-ltb, le-ltb, and_left, and_right, not_from_true}
+use Rattle.sharing.specs.Totals.{count}
 use Rattle.rules.specs.declared.numbers.Refusal.TheVariants.{FirmZero, BadSize, AnotherFirms, LastTimeReached}
 use Rattle.rules.specs.declared.terms.Entry.{Entry}
 use Rattle.rules.specs.declared.terms.Side.{Side}
 use Rattle.rules.specs.Calls.{Resizing, resize_at, resize_of, after_resize, without_entry, enlarged, reduced_in}
 use Rattle.rules.specs.Level.{resized}
 use Rattle.rules.specs.Model.{Model, entries, with_entries, with_last_time, ranked_in}
-use Rattle.rules.specs.Outcome.{Outcome, Standing, standing}
+use Rattle.rules.specs.Outcome.{Done, Outcome, standing}
 use Rattle.rules.specs.Outcome.Outcome.{refused, done}
-use Rattle.rules.specs.Outcome.Standing.{resting, out_on_route, nowhere}
+use Rattle.rules.specs.Outcome.Standing.{resting}
 use Rattle.rules.specs.Prices.{is_size}
 use Rattle.rules.specs.Sound.{Sound}
 use Rattle.rules.proofs.CallsKeep.{reduced_none, side_once}
-use Rattle.rules.proofs.Moves.{has_id}
+use Rattle.rules.proofs.Moves.{entries_with, with_again, has_id}
 use Rattle.book.specs.Answers.{Settles}
-use Rattle.book.specs.Standings.{not_its, Its}
+use Rattle.book.specs.Standings.{Its}
 use Rattle.book.specs.declared.find.Own.{Own}
-use Rattle.book.proofs.Cancelled.{answers, firm_zero, some_firm, the_same, refused_out, refused_entry, without_found}
-use Rattle.book.proofs.Edited.{entries_with, with_again}
+use Rattle.book.proofs.Cancelled.{without_found}
 use Rattle.book.proofs.Finding.{counted_at}
-use Rattle.book.proofs.Standings.{no_entry}
+use Rattle.rules.proofs.Defaults.{no_entry}
 
-module _ (c : Resizing) (m : Model) where
-  pub no_firm : c.firm ≡ 0 → resize_of c m ≡ refused FirmZero
+-- a firm's resting entry with another size, for which there is a working time if it is larger
+module _ (c : Resizing) (m : Model) (firm : c.firm ≡ 0 → ⊥) (size : is_size c.size ≡ true) (s : Side) (e : Entry) (stands : standing c.id m ≡ resting s e) (own : e.firm ≡ c.firm) where
+  as_own : resize_of c m ≡ cond (ltb e.size c.size && ltb 4000000000 m.counters.last_time) (refused LastTimeReached) (done (record { answer = c.size; lines = []; after = after_resize c s e m; ticket = None }))
   unfolding resize_of
-  no_firm none = go (standing c.id m)
-    where
-      go : (s : Standing) → resize_at c m s ≡ refused FirmZero
-      go nowhere = firm_zero c.firm none _
-      go (out_on_route r) = firm_zero c.firm none _
-      go (resting s e) = firm_zero c.firm none _
+  as_own =
+      ap (resize_at c m) stands
+      ∙ cond-false (eqb c.firm 0) (refused FirmZero) _ (ne_eqb c.firm 0 firm)
+      ∙ cond-false (not (is_size c.size)) (refused BadSize) _ (not_from_true (is_size c.size) size)
+      ∙ cond-false (not (eqb e.firm c.firm)) (refused AnotherFirms) _ (not_from_true (eqb e.firm c.firm) (eq-eqb e.firm c.firm own))
 
-  module _ (firm : c.firm ≡ 0 → ⊥) where
-    pub no_size : is_size c.size ≡ false → resize_of c m ≡ refused BadSize
-    unfolding resize_of
-    no_size bad = go (standing c.id m)
-      where
-        go : (s : Standing) → resize_at c m s ≡ refused BadSize
-        go nowhere = some_firm c.firm firm _ ∙ cond-true (not (is_size c.size)) (refused BadSize) _ (not_from_false (is_size c.size) bad)
-        go (out_on_route r) = some_firm c.firm firm _ ∙ cond-true (not (is_size c.size)) (refused BadSize) _ (not_from_false (is_size c.size) bad)
-        go (resting s e) = some_firm c.firm firm _ ∙ cond-true (not (is_size c.size)) (refused BadSize) _ (not_from_false (is_size c.size) bad)
+  pub made_smaller : c.size ≤ e.size → resize_of c m ≡ done (record { answer = c.size; lines = []; after = with_entries s (reduced_in c.id c.size (entries s m)) m; ticket = None })
+  made_smaller le =
+      let small = le-ltb e.size c.size le in
+      as_own ∙ cond-false (ltb e.size c.size && ltb 4000000000 m.counters.last_time) (refused LastTimeReached) _ (and_left (ltb e.size c.size) (ltb 4000000000 m.counters.last_time) small)
+      ∙ ap (λ (n : Model). done (record { answer = c.size; lines = []; after = n; ticket = None })) (cond-false (ltb e.size c.size) _ _ small)
 
-    module _ (size : is_size c.size ≡ true) where
-      some_size : (o : Outcome) → cond (eqb c.firm 0) (refused FirmZero) (cond (not (is_size c.size)) (refused BadSize) o) ≡ o
-      some_size o = some_firm c.firm firm _ ∙ cond-false (not (is_size c.size)) (refused BadSize) o (not_from_true (is_size c.size) size)
-
-      pub not_resized : (why : Refusal) → not_its c.firm (standing c.id m) ≡ Some why → resize_of c m ≡ refused why
-      unfolding resize_of
-      not_resized why = go (standing c.id m)
-        where
-          go : (s : Standing) → not_its c.firm s ≡ Some why → resize_at c m s ≡ refused why
-          go nowhere is = some_size _ ∙ ap refused (the_same _ why is)
-          go (out_on_route r) is = some_size _ ∙ refused_out (not (eqb r.firm c.firm)) why is
-          go (resting s e) is = some_size _ ∙ refused_entry (not (eqb e.firm c.firm)) _ why is
-
-      module _ (s : Side) (e : Entry) (stands : standing c.id m ≡ resting s e) (own : e.firm ≡ c.firm) where
-        as_own : resize_of c m ≡ cond (ltb e.size c.size && ltb 4000000000 m.counters.last_time) (refused LastTimeReached) (done (record { answer = c.size; lines = []; after = after_resize c s e m; ticket = None }))
-        unfolding resize_of
-        as_own = ap (resize_at c m) stands ∙ some_size _ ∙ cond-false (not (eqb e.firm c.firm)) (refused AnotherFirms) _ (not_from_true (eqb e.firm c.firm) (eq-eqb e.firm c.firm own))
-
-        pub no_time : e.size < c.size → ltb 4000000000 m.counters.last_time ≡ true → resize_of c m ≡ refused LastTimeReached
-        no_time larger last = as_own ∙ cond-true (ltb e.size c.size && ltb 4000000000 m.counters.last_time) (refused LastTimeReached) _ (and_from (ltb e.size c.size) (ltb 4000000000 m.counters.last_time) (lt-ltb e.size c.size larger) last)
-
-        pub made_smaller : c.size ≤ e.size → resize_of c m ≡ done (record { answer = c.size; lines = []; after = with_entries s (reduced_in c.id c.size (entries s m)) m; ticket = None })
-        made_smaller le =
-            let small = le-ltb e.size c.size le in
-            as_own ∙ cond-false (ltb e.size c.size && ltb 4000000000 m.counters.last_time) (refused LastTimeReached) _ (and_left (ltb e.size c.size) (ltb 4000000000 m.counters.last_time) small)
-            ∙ ap (λ (n : Model). done (record { answer = c.size; lines = []; after = n; ticket = None })) (cond-false (ltb e.size c.size) _ _ small)
-
-        pub made_larger : e.size < c.size → ltb 4000000000 m.counters.last_time ≡ false → resize_of c m ≡ done (record { answer = c.size; lines = []; after = with_last_time (m.counters.last_time + 1) (with_entries s (ranked_in s (enlarged c.size (m.counters.last_time + 1) e) (without_entry c.id (entries s m))) m); ticket = None })
-        made_larger lt early =
-            let large = lt-ltb e.size c.size lt in
-            as_own ∙ cond-false (ltb e.size c.size && ltb 4000000000 m.counters.last_time) (refused LastTimeReached) _ (and_right (ltb e.size c.size) (ltb 4000000000 m.counters.last_time) early)
-            ∙ ap (λ (n : Model). done (record { answer = c.size; lines = []; after = n; ticket = None })) (cond-true (ltb e.size c.size) _ _ large)
+  pub made_larger : e.size < c.size → ltb 4000000000 m.counters.last_time ≡ false → resize_of c m ≡ done (record { answer = c.size; lines = []; after = with_last_time (m.counters.last_time + 1) (with_entries s (ranked_in s (enlarged c.size (m.counters.last_time + 1) e) (without_entry c.id (entries s m))) m); ticket = None })
+  made_larger lt early =
+      let large = lt-ltb e.size c.size lt in
+      as_own ∙ cond-false (ltb e.size c.size && ltb 4000000000 m.counters.last_time) (refused LastTimeReached) _ (and_right (ltb e.size c.size) (ltb 4000000000 m.counters.last_time) early)
+      ∙ ap (λ (n : Model). done (record { answer = c.size; lines = []; after = n; ticket = None })) (cond-true (ltb e.size c.size) _ _ large)
 
 -- the entry at its place with another size
 reduced_at : (i n : ℕ) (es : List Entry) (k : ℕ) (d : Entry) → k < length es → (get_or es k d).id ≡ i → count (has_id i) es ≤ 1 → set es k (resized n (get_or es k d)) ≡ reduced_in i n es
 reduced_at i n [] k d lt is once = absurd (omega arith)
-reduced_at i n (e ∷ es) zero d lt is once =
-    let here = eq-eqb e.id i is in
-    let one = ap one_if here in
-    λ t. sym (cond-true (eqb e.id i) (resized n e) e here) t ∷ sym (reduced_none i n es (omega arith)) t
-reduced_at i n (e ∷ es) (suc k) d lt is once =
-    let behind = counted_at (λ (x : Entry). x.id) i es k d (omega arith) is in
-    ⊎_elim
-    (λ here. absurd (let one = ap one_if here in omega arith))
-    (λ away. let none = ap one_if away in λ t. sym (cond-false (eqb e.id i) (resized n e) e away) t ∷ reduced_at i n es k d (omega arith) is (omega arith) t)
-    (cases_Bool (eqb e.id i))
+reduced_at i n (e ∷ es) zero d lt is once = grind (arith, nat_tests, reduced_none i n es)
+reduced_at i n (e ∷ es) (suc k) d lt is once = grind (arith, nat_tests, counted_at (λ (x : Entry). x.id) i es k d, reduced_at i n es k d)
 
 pub reduced_there : (i firm n : ℕ) (m : Model) (p : Own) → Sound m → Its i firm m p → set (entries p.side m) p.at (resized n p.entry) ≡ reduced_in i n (entries p.side m)
 reduced_there i firm n m p sound its =
@@ -106,16 +66,20 @@ module _ (i firm : ℕ) (m n : Model) (p : Own) (sound : Sound m) (its : Its i f
       ap (λ x. with_last_time e.time (with_entries s (ranked_in s e (entries s x)) x)) is
       ∙ ap (with_last_time e.time) (with_again s es (ranked_in s e (entries s (with_entries s es m))) m ∙ ap (λ fs. with_entries s (ranked_in s e fs) m) (entries_with s es m ∙ without_found i firm m p sound its))
 
+-- an outcome that is done, and what it leaves and answers
+settled : (o : Outcome) (d : Done) (m n : Model) (a : ℕ) → o ≡ done d → n ≡ d.after → a ≡ d.answer → Settles {A = ℕ} o m (Ok a) n (λ e b. b ≡ e.answer)
+settled o d m n a is left answer = subst (λ x. Settles {A = ℕ} x m (Ok a) n (λ e b. b ≡ e.answer)) (sym is) (left, answer)
+
 -- a firm's entry has another size, which is answered
 module _ (c : Resizing) (m n : Model) (p : Own) (firm : c.firm ≡ 0 → ⊥) (size : is_size c.size ≡ true) (sound : Sound m) (its : Its c.id c.firm m p) where
   pub settles_smaller : c.size ≤ p.entry.size → n ≡ with_entries p.side (set (entries p.side m) p.at (resized c.size p.entry)) m → Settles {A = ℕ} (resize_of c m) m (Ok c.size) n (λ d a. a ≡ d.answer)
   settles_smaller le is =
       let set_there = ap (λ es. with_entries p.side es m) (reduced_there c.id c.firm c.size m p sound its) in
-      answers (resize_of c m) (record { answer = c.size; lines = []; after = with_entries p.side (reduced_in c.id c.size (entries p.side m)) m; ticket = None }) m n c.size (made_smaller c m firm size p.side p.entry its.stands its.firm_is le) (is ∙ set_there) refl
+      settled (resize_of c m) _ m n c.size (made_smaller c m firm size p.side p.entry its.stands its.firm_is le) (is ∙ set_there) refl
 
   -- o is the book without the entry
   pub settles_larger : (o : Model) → p.entry.size < c.size → ltb 4000000000 m.counters.last_time ≡ false → o ≡ with_entries p.side (remove (entries p.side m) p.at) m → n ≡ with_last_time (m.counters.last_time + 1) (with_entries p.side (ranked_in p.side (enlarged c.size (m.counters.last_time + 1) p.entry) (entries p.side o)) o) → Settles {A = ℕ} (resize_of c m) m (Ok c.size) n (λ d a. a ≡ d.answer)
   settles_larger o lt early gone is =
       let e = enlarged c.size (m.counters.last_time + 1) p.entry in
       let again = rests_again c.id c.firm m o p sound its gone e in
-      answers (resize_of c m) (record { answer = c.size; lines = []; after = with_last_time (m.counters.last_time + 1) (with_entries p.side (ranked_in p.side e (without_entry c.id (entries p.side m))) m); ticket = None }) m n c.size (made_larger c m firm size p.side p.entry its.stands its.firm_is lt early) (is ∙ again) refl
+      settled (resize_of c m) _ m n c.size (made_larger c m firm size p.side p.entry its.stands its.firm_is lt early) (is ∙ again) refl

@@ -16,5 +16,6 @@ settled_sound (refused why) m (Ok a) after Fits sound keeps settles = absurd set
 settled_sound (done d) m (Err e) after Fits sound keeps settles = absurd settles
 settled_sound (done d) m (Ok a) after Fits sound keeps settles = subst Sound (sym settles.0) keeps
 
+-- cited by name in an answer of each call: where it was named on the functions, the check did not find it
 pub stays_lawful : (m : Model) (k : Call) → StaysLawful m k
 stays_lawful m k h reached = every_history (longer k h)

@@ -1,24 +1,16 @@
 -- Where an order is, from what is found on each side and among the orders out. Assumes nothing.
-use Rattle.std.proofs.Common.{◌≡◌, ℕ, Bool, false, eqb, List, get_or, Some, None, Option, sym, ap, ◌∙◌}
+use Rattle.std.proofs.Common.{◌≡◌, ℕ, Bool, eqb, List, get_or, Some, None, Option, sym, ap, ◌∙◌}
 use Rattle.std.specs.List.{position}
 use Rattle.rules.specs.declared.terms.Entry.{Entry}
-use Rattle.rules.specs.declared.terms.Kind.TheVariants.{Customer}
 use Rattle.rules.specs.declared.terms.Routed.{Routed}
 use Rattle.rules.specs.declared.terms.Side.TheVariants.{Buy, Sell}
-use Rattle.rules.specs.declared.terms.Term.TheVariants.{Day}
 use Rattle.rules.specs.Model.{Model}
 use Rattle.rules.specs.Outcome.{entry_with, row_with, standing_by}
 use Rattle.rules.proofs.CallsKeep.{found_id}
+use Rattle.rules.proofs.Defaults.{no_entry, no_row}
 use Rattle.book.specs.declared.find.Standing.TheVariants.{Resting, Out}
 use Rattle.book.specs.Standings.{Stands}
 use Rattle.book.proofs.Finding.{found_at, not_found}
-
--- what stands where nothing does
-abbrev pub no_entry : Entry
-no_entry = record { id = 0; firm = 0; kind = Customer; market = false; price = 0; size = 0; time = 0; own_firm_mark = false }
-
-abbrev pub no_row : Routed
-no_row = record { id = 0; firm = 0; kind = Customer; side = Buy; term = Day; market = false; cap = 0; size = 0; directed = None; own_firm_mark = false }
 
 -- what was found in a list is found in what the list is equal to
 pub seen : {X : Type 0} (has : X → Bool) (r o : Option ℕ) {xs ys zs : List X} → r ≡ position has xs → xs ≡ ys → ys ≡ zs → r ≡ o → position has zs ≡ o

@@ -1,8 +1,8 @@
 // One side of the book: its entries in rank, in places that the host lends, and the away price.
-ghost use Rattle.std.specs.Prelude.{◌≡◌, ◌+◌, ◌<◌, ◌≤◌, [], length, take, slice_index_or, slice_set, nat_le, None};
+ghost use Rattle.std.specs.Prelude.{◌≡◌, ◌<◌, ◌≤◌, [], length, take, slice_index_or, slice_set, nat_le, None};
 ghost use Rattle.std.specs.List.{AllByRecursion, remove};
-ghost use Rattle.matching.specs.Tapes.{Writes};
-ghost use Rattle.matching.specs.Walks.{walked};
+ghost use Rattle.matching.specs.Tapes.{Room, Writes};
+ghost use Rattle.matching.specs.Walks.{walked, Leaves};
 ghost use Rattle.rules.specs.Laws.{Tradable};
 ghost use Rattle.rules.specs.Model as book;
 ghost use Rattle.rules.specs.Model.{ranked_in};
@@ -42,12 +42,10 @@ impl<'a> BookSide<'a> {
     pub(crate) fn new(side: Side, places: &'a mut [Entry]) -> Self
         ensures { result ≡ record { side = side; entries = []; places = length places.old; away = None } }
     {
-        let list = RankedList {
-            ranking: side,
-            places,
-            len: 0,
-        };
-        BookSide { list, away: None }
+        BookSide {
+            list: RankedList::new(side, places),
+            away: None,
+        }
     }
 }
 
@@ -65,13 +63,8 @@ fn walk_first<R: Rule>(
 ) -> Walked
     requires within { len ≤ length places.old }
     requires tradable { AllByRecursion (Tradable order.now.size) (runs (take len places.old)) }
-    requires sheet { len ≤ length lent.old.sheet.now }
-    requires tape { lent.old.lines + len ≤ length lent.old.tape.now }
-    ensures balance { result.balance ≡ (walked (R.meaning rule.now) order.now national away (take len places.old)).balance }
-    ensures left { result.left ≤ length places.new }
-    ensures entries { take result.left places.new ≡ (walked (R.meaning rule.now) order.now national away (take len places.old)).run }
-    ensures places { length places.new ≡ length places.old }
-    ensures writes { Writes (walked (R.meaning rule.now) order.now national away (take len places.old)).lines lent.old lent.new }
+    requires room { Room len len lent.old }
+    ensures { Leaves (walked (R.meaning rule.now) order.now national away (take len places.old)) result places.new lent.old lent.new }
 {
     walk(rule, order, national, away, &mut places[..len], lent)
 }
@@ -143,6 +136,7 @@ impl BookSide<'_> {
         requires rank { rank_of e ≡ rank_of (slice_index_or self.old.entries at e) }
         ensures { self.new ≡ with_list (slice_set self.old.entries at e) self.old }
     {
+        // Stays in two lines: where it was written through the field, the check did not find that its offset fits.
         let places = &mut *self.list.places;
         places[at] = e;
     }
@@ -150,8 +144,7 @@ impl BookSide<'_> {
     // An order of the other side trades with this one; answers its balance.
     pub(crate) fn meet<R: Rule>(&mut self, rule: &R, order: &Routed, lent: &mut Lent<'_>) -> u32
         requires tradable { AllByRecursion (Tradable order.now.size) (runs self.old.entries) }
-        requires sheet { length self.old.entries ≤ length lent.old.sheet.now }
-        requires tape { lent.old.lines + length self.old.entries ≤ length lent.old.tape.now }
+        requires room { Room (length self.old.entries) (length self.old.entries) lent.old }
         ensures after { self.new ≡ with_list (walked (R.meaning rule.now) order.now (nation self.old) self.old.away self.old.entries).run self.old }
         ensures balance { result ≡ (walked (R.meaning rule.now) order.now (nation self.old) self.old.away self.old.entries).balance }
         ensures writes { Writes (walked (R.meaning rule.now) order.now (nation self.old) self.old.away self.old.entries).lines lent.old lent.new }

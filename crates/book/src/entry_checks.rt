@@ -1,12 +1,11 @@
 // The checks before an entry, in their order.
-ghost use Rattle.std.specs.Prelude.{◌≡◌, ◌-◌, ◌<◌, [], not, ◌&&◌, ◌||◌, length, is_some, ◌==◌, nat_le};
-ghost use Rattle.rules.specs.Calls.{reference, entry_checks};
-ghost use Rattle.rules.specs.Caps.{is_ioc};
-ghost use Rattle.rules.specs.Checks.{unpriced};
+ghost use Rattle.std.specs.Prelude.{◌≡◌, ◌-◌, ◌<◌, [], not, ◌&&◌, ◌||◌, length, ◌==◌, nat_le};
+ghost use Rattle.rules.specs.Calls.{reference};
+ghost use Rattle.rules.specs.Caps.{cap_of, is_ioc};
 ghost use Rattle.rules.specs.Model.{entries, places};
 ghost use Rattle.rules.specs.Outcome.{longer_side, lent_checks, firm_zero};
 ghost use Rattle.rules.specs.Sound.{Sound};
-ghost use Rattle.book.specs.Entries.{entering};
+ghost use Rattle.book.specs.Entries.{entering, Admits};
 ghost use Rattle.book.specs.Refusals.{Passes};
 
 use crate::market::bad_price;
@@ -57,17 +56,18 @@ impl State<'_> {
         !order.term.is_immediate() && self.side(order.side).is_full()
     }
 
-    // A Market Order has nothing to reckon its collar from.
-    fn no_reference(&self, order: &Order) -> bool
-        ensures { result ≡ (unpriced order.now && not (is_some (reference order.now self.now))) }
+    // The order's cap. A Market Order has none where there is nothing to reckon its collar from.
+    fn cap_for(&self, order: &Order) -> Option<u32>
+        ensures { result ≡ cap_of order.now self.now.opening.tick (reference order.now self.now) }
     {
-        order.price.is_none() && self.side(order.side.other()).national_best().is_none()
+        let reference = self.side(order.side.other()).national_best();
+        order.cap(self.tick, reference)
     }
 
-    // An entry is refused by the first check that fits.
-    pub(crate) fn check_entry(&self, order: &Order, lent: &Lent<'_>) -> Result<(), Refusal>
+    // The cap with which an order sets out, or the first check that refuses its entry.
+    pub(crate) fn check_entry(&self, order: &Order, lent: &Lent<'_>) -> Result<u32, Refusal>
         requires { Sound self.now }
-        ensures { Passes (entry_checks (entering order.now lent.now) self.now) result }
+        ensures { Admits (entering order.now lent.now) self.now result }
     {
         self.check_lent(lent)?;
         if order.id <= self.last_id {
@@ -94,9 +94,6 @@ impl State<'_> {
         if self.no_place(order) {
             return Err(Refusal::SideFull);
         }
-        if self.no_reference(order) {
-            return Err(Refusal::NoReference);
-        }
-        Ok(())
+        self.cap_for(order).ok_or(Refusal::NoReference)
     }
 }

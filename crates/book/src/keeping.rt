@@ -1,5 +1,5 @@
 // The book: what it keeps, sound at every call, and its public calls.
-ghost use Rattle.std.specs.Prelude.{◌≡◌, true, false, not, ◌||◌, length, is_ok, if◌then◌else◌, Some, None, ◌==◌};
+ghost use Rattle.std.specs.Prelude.{◌≡◌, true, false, not, ◌||◌, length, is_ok};
 ghost use Rattle.sharing.specs.Sharing.{Lawful};
 ghost use Rattle.rules.specs.Calls.{entry_of, return_of, resize_of, cancel_of, market_of, bad_places, opened, opening_of};
 ghost use Rattle.rules.specs.Model.{entries, best, national_best};
@@ -9,6 +9,7 @@ ghost use Rattle.laws.specs.Histories.{is_accepted};
 ghost use Rattle.laws.specs.Histories.Call.{enters, returns, resizes, cancels, updates};
 ghost use Rattle.laws.specs.Lawful.{StaysLawful};
 ghost use Rattle.book.specs.Answers.{Settles, Checks};
+ghost use Rattle.book.specs.Books.{opening_call};
 ghost use Rattle.book.specs.Entries.{entry_call, taped};
 ghost use Rattle.book.specs.Returns.{return_call};
 ghost use Rattle.book.specs.Tickets.{Gives, ReturnsAs};
@@ -28,15 +29,11 @@ pub struct Accepted {
 }
 
 // The ticket of an order that went out.
-// Stays told by a flag: a return makes no ticket, and was not let to drop the `Option` of one that a trade would answer instead.
-fn ticket_for(routed: bool, series: u32, id: u64) -> Option<Ticket>
-    ensures { Gives series (if routed then Some id else None) result }
+fn ticket_for(series: u32, out: Option<u64>) -> Option<Ticket>
+    ensures { Gives series out result }
 {
-    if routed {
-        Some(Ticket { series, id })
-    } else {
-        None
-    }
+    let id = out?;
+    Some(Ticket { series, id })
 }
 
 // A caller sees the book as lists and numbers: its entries on each side, the orders out, away prices and counters.
@@ -60,22 +57,11 @@ impl<'a> Model for Book<'a> {
 fn bad_places(n: usize) -> bool
     ensures { result ≡ bad_places n }
 {
-    n == 0 || n > 256
-}
-
-fn bad_sides(bid_places: usize, offer_places: usize) -> bool
-    ensures { result ≡ (bad_places bid_places || bad_places offer_places) }
-{
-    bad_places(bid_places) || bad_places(offer_places)
-}
-
-fn bad_tick_or_series(tick: u32, series: u32) -> bool
-    ensures { result ≡ (not (is_tick tick) || series == 0) }
-{
-    !valid_tick(tick) || series == 0
+    !(1..=256).contains(&n)
 }
 
 // What an opening would be refused for: a side with 0 or over 256 places, another tick than 1, 5 or 10, or series 0.
+#[tactic(auto, unfolding(rules::specs::Calls::opening_of))]
 pub fn check_opening(
     bid_places: usize,
     offer_places: usize,
@@ -84,20 +70,24 @@ pub fn check_opening(
 ) -> Result<(), Refusal>
     ensures { Checks (opening_of (record { bid_places = bid_places; offer_places = offer_places; tick = tick; series = series })) result }
 {
-    if bad_sides(bid_places, offer_places) {
+    if bad_places(bid_places) || bad_places(offer_places) {
         return Err(Refusal::BadPlaces);
     }
-    if bad_tick_or_series(tick, series) {
+    if !valid_tick(tick) || series == 0 {
         return Err(Refusal::BadTickOrSeries);
     }
     Ok(())
 }
 
+// Stays with the parameters of these calls, some of which travel together (tick and series, id and firm, ticket and contracts
+// executed, claim sheet and tape): gateways that we do not see make the calls. What the host lends is a `Lent` below them; the others
+// go on as they are, since a struct of two would be made here only to be taken apart by the checks.
+#[tactic(auto, using(crate::proofs::Settled::settled_sound, rules::proofs::CallsKeep::kept))]
 impl<'a> Book<'a> {
     // A book without entries, orders out or away prices, in places that the host lends, after `check_opening` let it pass.
     pub fn open(bids: &'a mut [Entry], offers: &'a mut [Entry], tick: u32, series: u32) -> Self
-        requires { is_accepted (opening_of (record { bid_places = length bids.old; offer_places = length offers.old; tick = tick; series = series })) ≡ true }
-        ensures { result ≡ opened (record { bid_places = length bids.old; offer_places = length offers.old; tick = tick; series = series }) }
+        requires { is_accepted (opening_of (opening_call bids.old offers.old tick series)) ≡ true }
+        ensures { result ≡ opened (opening_call bids.old offers.old tick series) }
     {
         Book {
             state: State::new(bids, offers, tick, series),
@@ -130,8 +120,8 @@ impl<'a> Book<'a> {
     {
         let series = self.state.series;
         let mut lent = Lent::new(sheet, tape);
-        let routed = self.state.enter(rule, order, &mut lent)?;
-        let ticket = ticket_for(routed, series, order.id);
+        let out = self.state.enter(rule, order, &mut lent)?;
+        let ticket = ticket_for(series, out);
         Ok(Accepted {
             lines: lent.lines,
             ticket,

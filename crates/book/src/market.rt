@@ -18,6 +18,7 @@ pub(crate) fn bad_price(tick: u32, price: Option<u32>) -> bool
 
 impl State<'_> {
     // Sets the away price on a side.
+    #[tactic(auto, unfolding(rules::specs::Calls::market_of))]
     pub(crate) fn market(&mut self, side: Side, price: Option<u32>) -> Result<(), Refusal>
         requires { Sound self.old }
         ensures { Settles (market_of (record { side = side; price = price }) self.old) self.old result self.new (λ d a. Unit {0}) }

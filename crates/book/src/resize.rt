@@ -9,6 +9,7 @@ use rules::{Entry, Refusal, valid_size};
 
 impl State<'_> {
     // Sets the size of a firm's resting entry, and answers it.
+    #[tactic(auto, unfolding(rules::specs::Calls::resize_of))]
     pub(crate) fn resize(&mut self, id: u64, firm: u16, size: u32) -> Result<u32, Refusal>
         requires { Sound self.old }
         ensures { Settles (resize_of (record { id = id; firm = firm; size = size }) self.old) self.old result self.new (λ d a. a ≡ d.answer) }

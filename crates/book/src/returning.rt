@@ -1,5 +1,5 @@
 // A return: its checks, its row goes, and what was not executed away trades again.
-ghost use Rattle.std.specs.Prelude.{◌≡◌, length, is_some, Ok as accepted};
+ghost use Rattle.std.specs.Prelude.{◌≡◌};
 ghost use Rattle.rules.specs.Calls.{return_of};
 ghost use Rattle.rules.specs.Sound.{Sound};
 ghost use Rattle.book.specs.Answers.{Settles};
@@ -15,6 +15,7 @@ use sharing::Rule;
 
 impl State<'_> {
     // The place of the row that comes back, or the first check that refuses the return.
+    #[tactic(auto, using(crate::proofs::Finding::found_at), unfolding(rules::specs::Calls::return_of))]
     fn check_return(
         &self,
         ticket: &Ticket,
@@ -24,40 +25,14 @@ impl State<'_> {
         ensures { Comes (returning ticket.now executed lent.now) self.now result }
     {
         self.check_lent(lent)?;
-        let out: &[Routed] = &self.out;
-        let Some(at) = find(out, ticket.id) else {
-            return Err(Refusal::NotOutHere);
-        };
+        let at = find(&self.out, ticket.id).ok_or(Refusal::NotOutHere)?;
         if ticket.series != self.series {
             return Err(Refusal::NotOutHere);
         }
-        if executed > out[at].size {
+        if executed > self.out[at].size {
             return Err(Refusal::MoreThanRouted);
         }
         Ok(at)
-    }
-
-    // Carries out a return that no check refuses.
-    fn take_back<R: Rule>(
-        &mut self,
-        rule: &R,
-        ticket: &Ticket,
-        executed: u32,
-        at: usize,
-        lent: &mut Lent<'_>,
-    )
-        requires sound { Sound self.old }
-        requires comes { Comes (returning ticket.now executed lent.old) self.old (accepted at) }
-        ensures outcome { Settles {A = Unit {0}} (return_of (R.meaning rule.now) (returning ticket.now executed lent.old) self.old) self.old (accepted tt) self.new (λ d a. Unit {0}) }
-        ensures tapes { Tapes (return_of (R.meaning rule.now) (returning ticket.now executed lent.old) self.old) lent.old lent.new }
-    {
-        let row = self.out.remove(at);
-        let back = Routed {
-            size: row.size - executed,
-            ..row
-        };
-        // It has no leave to route, so it does not go out again.
-        let _out = self.trade(rule, &back, false, lent);
     }
 
     // A return is refused by the first check that fits, and else carried out.
@@ -73,7 +48,13 @@ impl State<'_> {
         ensures tapes { Tapes (return_of (R.meaning rule.now) (returning ticket.now executed lent.old) self.old) lent.old lent.new }
     {
         let at = self.check_return(ticket, executed, lent)?;
-        self.take_back(rule, ticket, executed, at, lent);
+        let row = self.out.remove(at);
+        let back = Routed {
+            size: row.size - executed,
+            ..row
+        };
+        // It has no leave to route, so it does not go out again.
+        let _out = self.trade(rule, &back, false, lent);
         Ok(())
     }
 }

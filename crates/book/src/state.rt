@@ -4,6 +4,7 @@ ghost use Rattle.std.specs.List.{remove};
 ghost use Rattle.rules.specs.Calls.{opened};
 ghost use Rattle.rules.specs.Model.{entries, places, with_entries, with_away, with_last_time, ranked_in};
 ghost use Rattle.rules.specs.Ranks.{rank_of};
+ghost use Rattle.book.specs.Books.{opening_call};
 ghost use Rattle.book.specs.Sides.{one_side};
 
 use crate::book_side::BookSide;
@@ -12,7 +13,8 @@ use rules::{Entry, Routed, Side};
 use std::marker::Model;
 
 // Stays apart from `Book`, which is sound at every call: between the steps of a call the book need not be, and a function
-// that needs it sound asks for that. Stays two fields: of an array of two sides each clause would read an element.
+// that needs it sound asks for that.
+// Stays with a field for each side: of an array of two sides each clause would read an element.
 #[derive(Drop)]
 pub(crate) struct State<'a> {
     pub bids: BookSide<'a>,
@@ -43,7 +45,7 @@ impl<'a> State<'a> {
         tick: u32,
         series: u32,
     ) -> Self
-        ensures { result ≡ opened (record { bid_places = length bids.old; offer_places = length offers.old; tick = tick; series = series }) }
+        ensures { result ≡ opened (opening_call bids.old offers.old tick series) }
     {
         State {
             bids: BookSide::new(Side::Buy, bids),
@@ -73,9 +75,12 @@ impl<'a> State<'a> {
     }
 }
 
-// Stays a match on the side in each of these: of a `&mut` lent into one of two fields by a function of its own no proof was found.
+// Stays a match on the side in each of these: a function that lent a side as `&mut` would have to leave bids among the bids and
+// offers among the offers whatever is written there, and a side of the other kind could be.
 impl State<'_> {
     // An entry comes to its place on a side, and its working time is the last.
+    // Stays with a clause for the place, as `insert` of a side and `settle` do, and as `remove` and `replace` for the place that they
+    // read: each call alters how many there are, so no type tells of it.
     pub(crate) fn insert(&mut self, side: Side, e: Entry)
         requires { length (entries side self.old) < places side self.old }
         ensures { self.new ≡ with_last_time e.time (with_entries side (ranked_in side e (entries side self.old)) self.old) }

@@ -6,7 +6,58 @@ use sharing::{Claim, Rule, SizeProRata};
 use std::mem::ManuallyDrop;
 use std::process::Abort;
 
-pub const NO_LINE: Line = Line::Filled { id: 0, firm: 0 };
+// What a book is opened with: the places of its sides, its tick and its series.
+#[derive(Drop)]
+pub struct Opening<const BIDS: usize, const OFFERS: usize> {
+    bids: [Entry; BIDS],
+    offers: [Entry; OFFERS],
+    tick: u32,
+    series: u32,
+}
+
+impl<const BIDS: usize, const OFFERS: usize> Opening<BIDS, OFFERS> {
+    pub fn new(tick: u32, series: u32) -> Self {
+        Opening {
+            bids: [Entry::default(); BIDS],
+            offers: [Entry::default(); OFFERS],
+            tick,
+            series,
+        }
+    }
+
+    // A desk with a new book in these places.
+    pub fn desk<'a, R: Abort>(&'a mut self, rt: &'a R) -> Desk<'a, R> {
+        let Opening {
+            bids,
+            offers,
+            tick,
+            series,
+        } = self;
+        if let Err(why) = check_opening(bids.len(), offers.len(), *tick, *series) {
+            panic!(rt; "the opening is refused: {why:?}");
+        }
+        Desk {
+            rt,
+            book: Book::open(bids, offers, *tick, *series),
+        }
+    }
+}
+
+// A claim sheet and a tape, of so many places, which a call is lent.
+#[derive(Drop)]
+pub struct Lent<const CLAIMS: usize, const LINES: usize> {
+    sheet: [Claim; CLAIMS],
+    tape: [Line; LINES],
+}
+
+impl<const CLAIMS: usize, const LINES: usize> Lent<CLAIMS, LINES> {
+    pub fn new() -> Self {
+        Lent {
+            sheet: [Claim::default(); CLAIMS],
+            tape: [Line::default(); LINES],
+        }
+    }
+}
 
 // A ticket that a failing test may let go; one that passes gives it back.
 #[derive(Drop)]
@@ -30,65 +81,52 @@ pub struct Desk<'a, R: Abort> {
 }
 
 impl<'a, R: Abort> Desk<'a, R> {
-    // A new book.
-    pub fn open(
-        rt: &'a R,
-        bids: &'a mut [Entry],
-        offers: &'a mut [Entry],
-        tick: u32,
-        series: u32,
-    ) -> Self {
-        if let Err(why) = check_opening(bids.len(), offers.len(), tick, series) {
-            panic!(rt; "the opening is refused: {why:?}");
-        }
-        Desk {
-            rt,
-            book: Book::open(bids, offers, tick, series),
-        }
-    }
-
-    // An entry answers the number of lines and a ticket.
-    fn try_enter<S: Rule>(
+    // An entry answers the lines of its tape and a ticket.
+    fn try_enter<'t, S: Rule, const CLAIMS: usize, const LINES: usize>(
         &mut self,
         rule: &S,
         order: Order,
-        sheet: &mut [Claim],
-        tape: &mut [Line],
-    ) -> Result<(usize, Option<Held>), Refusal> {
+        lent: &'t mut Lent<CLAIMS, LINES>,
+    ) -> Result<(&'t [Line], Option<Held>), Refusal> {
+        let Lent { sheet, tape } = lent;
         let Accepted { lines, ticket } = self.book.enter(rule, &order, sheet, tape)?;
-        Ok((lines, ticket.map(Held::from)))
+        let held = ticket.map(Held::from);
+        Ok((tape.get(..lines).expect(self.rt, "so many lines"), held))
     }
 
-    // A return answers the number of lines, or the refusal and the ticket.
-    fn try_back(
+    // A return answers the lines of its tape, or the refusal and the ticket.
+    fn try_back<'t, const CLAIMS: usize, const LINES: usize>(
         &mut self,
         held: Held,
         executed: u32,
-        sheet: &mut [Claim],
-        tape: &mut [Line],
-    ) -> Result<usize, (Refusal, Held)> {
+        lent: &'t mut Lent<CLAIMS, LINES>,
+    ) -> Result<&'t [Line], (Refusal, Held)> {
         let ticket = ManuallyDrop::into_inner(held.ticket);
-        self.book
+        let Lent { sheet, tape } = lent;
+        match self
+            .book
             .give_back(&SizeProRata, ticket, executed, sheet, tape)
-            .map_err(|NotReturned { refusal, ticket }| (refusal, Held::from(ticket)))
+        {
+            Err(NotReturned { refusal, ticket }) => Err((refusal, Held::from(ticket))),
+            Ok(lines) => Ok(tape.get(..lines).expect(self.rt, "so many lines")),
+        }
     }
 
-    // The first lines of the tape, as many as the call answered, are these.
-    fn compare(&self, tape: &[Line], lines: usize, rows: &[Row]) {
-        assert_eq!(self.rt; lines, rows.len());
-        assert!(self.rt; lines <= tape.len());
-        for (line, row) in tape[..lines].iter().zip(rows) {
+    // The lines of a tape are these.
+    fn compare(&self, lines: &[Line], rows: &[Row]) {
+        assert_eq!(self.rt; lines.len(), rows.len());
+        for (line, row) in lines.iter().zip(rows) {
             assert_eq!(self.rt; Row::from(*line), *row);
         }
     }
 
     // The order is accepted by this rule with this tape, and gives this ticket, if one.
     fn accept<S: Rule>(&mut self, rule: &S, order: Order, rows: &[Row]) -> Option<Held> {
-        let mut tape = [NO_LINE; 9];
-        match self.try_enter(rule, order, &mut [Claim::default(); 8], &mut tape) {
+        let mut lent = Lent::<8, 9>::new();
+        match self.try_enter(rule, order, &mut lent) {
             Err(why) => panic!(self.rt; "the entry is refused: {why:?}"),
             Ok((lines, ticket)) => {
-                self.compare(&tape, lines, rows);
+                self.compare(lines, rows);
                 ticket
             }
         }
@@ -117,14 +155,13 @@ impl<'a, R: Abort> Desk<'a, R> {
 
     // The entry is refused with this number, on this sheet and tape.
     // Stays a number, here and in the calls below: a test gives what the venue tells, whose refusals docs/numbers.md numbers.
-    pub fn refuse_lent(
+    pub fn refuse_lent<const CLAIMS: usize, const LINES: usize>(
         &mut self,
         order: Order,
-        sheet: &mut [Claim],
-        tape: &mut [Line],
+        mut lent: Lent<CLAIMS, LINES>,
         number: u8,
     ) {
-        match self.try_enter(&SizeProRata, order, sheet, tape) {
+        match self.try_enter(&SizeProRata, order, &mut lent) {
             Err(why) => assert_eq!(self.rt; why.number(), number),
             Ok(_) => panic!(self.rt; "the entry is accepted"),
         }
@@ -132,28 +169,27 @@ impl<'a, R: Abort> Desk<'a, R> {
 
     // The entry is refused with this number.
     pub fn refuse(&mut self, order: Order, number: u8) {
-        self.refuse_lent(order, &mut [Claim::default(); 8], &mut [NO_LINE; 9], number);
+        self.refuse_lent(order, Lent::<8, 9>::new(), number);
     }
 
     // The order comes back with so many executed away, and has this tape.
     pub fn back(&mut self, held: Held, executed: u32, rows: &[Row]) {
-        let mut tape = [NO_LINE; 9];
-        match self.try_back(held, executed, &mut [Claim::default(); 8], &mut tape) {
+        let mut lent = Lent::<8, 9>::new();
+        match self.try_back(held, executed, &mut lent) {
             Err((why, _)) => panic!(self.rt; "the return is refused: {why:?}"),
-            Ok(lines) => self.compare(&tape, lines, rows),
+            Ok(lines) => self.compare(lines, rows),
         }
     }
 
     // The return is refused with this number, on this sheet and tape, and the ticket comes back.
-    pub fn keep_lent(
+    pub fn keep_lent<const CLAIMS: usize, const LINES: usize>(
         &mut self,
         held: Held,
         executed: u32,
-        sheet: &mut [Claim],
-        tape: &mut [Line],
+        mut lent: Lent<CLAIMS, LINES>,
         number: u8,
     ) -> Held {
-        match self.try_back(held, executed, sheet, tape) {
+        match self.try_back(held, executed, &mut lent) {
             Err((why, held)) => {
                 assert_eq!(self.rt; why.number(), number);
                 held
@@ -164,13 +200,7 @@ impl<'a, R: Abort> Desk<'a, R> {
 
     // The return is refused with this number, and the ticket comes back.
     pub fn keep(&mut self, held: Held, executed: u32, number: u8) -> Held {
-        self.keep_lent(
-            held,
-            executed,
-            &mut [Claim::default(); 8],
-            &mut [NO_LINE; 9],
-            number,
-        )
+        self.keep_lent(held, executed, Lent::<8, 9>::new(), number)
     }
 
     // The away price is set, or refused with this number.

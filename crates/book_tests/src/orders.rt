@@ -1,69 +1,40 @@
-// Orders in short: what they leave out asks for nothing.
+// Orders in short, of another firm's own account: what they leave out asks for nothing.
 use rules::{Kind, Order, Side, Term};
 
-pub fn of(
-    id: u64,
-    firm: u16,
-    kind: Kind,
-    side: Side,
-    term: Term,
-    price: Option<u32>,
-    size: u32,
-) -> Order {
+// A Market Order for the day.
+pub fn market_order(side: Side, id: u64, firm: u16, size: u32) -> Order {
     Order {
         id,
         firm,
-        kind,
+        kind: Kind::Other,
         side,
-        term,
-        price,
         size,
-        least: 0,
-        directed: None,
-        own_firm_mark: false,
-        may_route: false,
+        ..Order::default()
     }
 }
 
-// A Day order or a quote of this kind.
-pub fn day(id: u64, firm: u16, kind: Kind, side: Side, price: u32, size: u32) -> Order {
-    of(id, firm, kind, side, Term::Day, Some(price), size)
+// A Limit Order for the day.
+pub fn day(side: Side, id: u64, firm: u16, price: u32, size: u32) -> Order {
+    Order {
+        price: Some(price),
+        ..market_order(side, id, firm, size)
+    }
 }
 
-// An offer for the day of another firm's own account.
-// Stays beside `bid`, as `buy_now` does beside `sell_now`: they differ in a side, and a table reads by the short names.
-pub fn offer(id: u64, firm: u16, price: u32, size: u32) -> Order {
-    day(id, firm, Kind::Other, Side::Sell, price, size)
+// A Limit Order for the moment.
+pub fn now(side: Side, id: u64, firm: u16, price: u32, size: u32) -> Order {
+    immediate(day(side, id, firm, price, size))
 }
 
-// A bid for the day of another firm's own account.
-pub fn bid(id: u64, firm: u16, price: u32, size: u32) -> Order {
-    day(id, firm, Kind::Other, Side::Buy, price, size)
+pub fn immediate(order: Order) -> Order {
+    Order {
+        term: Term::ImmediateOrCancel,
+        ..order
+    }
 }
 
-// An immediate order of another firm's own account.
-fn now(id: u64, firm: u16, side: Side, price: u32, size: u32) -> Order {
-    of(
-        id,
-        firm,
-        Kind::Other,
-        side,
-        Term::ImmediateOrCancel,
-        Some(price),
-        size,
-    )
-}
-
-pub fn buy_now(id: u64, firm: u16, price: u32, size: u32) -> Order {
-    now(id, firm, Side::Buy, price, size)
-}
-
-pub fn sell_now(id: u64, firm: u16, price: u32, size: u32) -> Order {
-    now(id, firm, Side::Sell, price, size)
-}
-
-pub fn market_order(id: u64, firm: u16, kind: Kind, side: Side, size: u32) -> Order {
-    of(id, firm, kind, side, Term::Day, None, size)
+pub fn of_kind(order: Order, kind: Kind) -> Order {
+    Order { kind, ..order }
 }
 
 pub fn marked(order: Order) -> Order {

@@ -1,5 +1,5 @@
 -- The runs of a side in rank go from better prices to worse. Assumes nothing.
-use Rattle.std.proofs.Common.{◌≡◌, ℕ, ◌<◌, ◌≤◌, Bool, true, false, ◌&&◌, eqb, List, [], ◌∷◌, ◌++◌, length, Some, None, filter, Option, sym, refl, ◌∙◌, subst, arith, length-append}
+use Rattle.std.proofs.Common.{◌≡◌, ℕ, ◌<◌, ◌≤◌, Bool, true, false, ◌&&◌, eqb, List, [], ◌∷◌, length, Some, None, filter, Option, sym, ap, ◌∙◌, subst, arith}
 use Rattle.std.specs.List.{AllByRecursion}
 use Rattle.std.proofs.ByRecursion.{All-weaker, All-append, all_kept_by, kept_by_passes}
 use Rattle.std.proofs.lemmas.Bool.{cond_both, eqb-true, and_parts}
@@ -12,11 +12,12 @@ use Rattle.rules.specs.Prices.{in_reach}
 use Rattle.rules.specs.Ranks.{class_of, rank_of, rank_before}
 use Rattle.rules.specs.Sides.{other_side, is_better}
 use Rattle.rules.specs.Sound.{InRank}
-use Rattle.rules.specs.Walk.{into_runs, runs, flat}
-use Rattle.rules.proofs.Held.{length_kept, by_time_kept}
+use Rattle.rules.specs.Walk.{into_runs, runs, flat, at_price}
+use Rattle.rules.proofs.Held.{Sized, length_kept}
 use Rattle.rules.proofs.InRank.{in_rank_left}
 use Rattle.rules.proofs.Leaves.{left_kept, runs_are_whole}
 use Rattle.rules.proofs.Runs.{earlier_of}
+use Rattle.laws.proofs.Lists.{all_both}
 
 -- runs of one price each, the better prices first
 abbrev pub BetterFirst : Side → List (List Entry) → Type 0
@@ -24,12 +25,14 @@ BetterFirst s [] = Unit {0}
 BetterFirst s ([] ∷ rs) = ⊥
 BetterFirst s ((e ∷ r) ∷ rs) = AllByRecursion (λ f. f.price ≡ e.price) r × AllByRecursion (λ f. is_better s e.price f.price ≡ true) (flat rs) × BetterFirst s rs
 
+-- a test of the price of a run is one of each of its entries
+pub run_price : (test : ℕ → Bool) (s : Side) (r : List Entry) (rs : List (List Entry)) → BetterFirst s (r ∷ rs) → at_price test r ≡ true → AllByRecursion (λ e. test e.price ≡ true) r × BetterFirst s rs
+run_price test s [] rs st h = absurd st
+run_price test s (e ∷ r) rs st h = ((h, All-weaker (λ f. f.price ≡ e.price) (λ f. test f.price ≡ true) (λ f same. ap test same ∙ h) r st.0), st.2)
+
 better_price : (s : Side) (e f : Entry) → rank_before s (rank_of e) (rank_of f) ≡ true → eqb e.price f.price ≡ false → is_better s e.price f.price ≡ true
-better_price s e f h differ = plain s e.price f.price (class_of e) (class_of f) e.time f.time h differ
-  where
-    plain : (s : Side) (p q k l t u : ℕ) → rank_before s (p, k, t) (q, l, u) ≡ true → eqb p q ≡ false → is_better s p q ≡ true
-    plain Buy p q k l t u h differ = grind (arith, nat_tests)
-    plain Sell p q k l t u h differ = grind (arith, nat_tests)
+better_price Buy e f h differ = grind (arith, nat_tests)
+better_price Sell e f h differ = grind (arith, nat_tests)
 
 pub better_trans : (s : Side) (p q r : ℕ) → is_better s p q ≡ true → is_better s q r ≡ true → is_better s p r ≡ true
 better_trans Buy p q r h k = grind (arith, nat_tests)
@@ -50,15 +53,11 @@ nearer Sell cap None p q h k = grind (arith, nat_tests)
 nearer Buy cap (Some x) p q h k = grind (arith, nat_tests)
 nearer Sell cap (Some x) p q h k = grind (arith, nat_tests)
 
-pub all_split : {X : Type 0} (P : X → Type 0) (xs ys : List X) → AllByRecursion P (xs ++ ys) → AllByRecursion P xs × AllByRecursion P ys
-all_split P [] ys h = (tt, h)
-all_split P (x ∷ xs) ys h = let more = all_split P xs ys h.1 in ((h.0, more.0), more.1)
-
 into_better_first : (s : Side) (e : Entry) (rs : List (List Entry)) → BetterFirst s rs → AllByRecursion (λ f. rank_before s (rank_of e) (rank_of f) ≡ true) (flat rs) → BetterFirst s (into_runs e rs)
 into_better_first s e [] st ranked = (tt, tt, tt)
 into_better_first s e ([] ∷ rs) st ranked = absurd st
 into_better_first s e ((f ∷ fs) ∷ rs) st ranked =
-    cond_both (eqb e.price f.price) ((e ∷ f ∷ fs) ∷ rs) ((e ∷ []) ∷ (f ∷ fs) ∷ rs) (BetterFirst s)
+    cond_both (eqb e.price f.price) _ _ (BetterFirst s)
     (λ level.
     let same = eqb-true e.price f.price level in (
       (sym same, All-weaker (λ g. g.price ≡ f.price) (λ g. g.price ≡ e.price) (λ g h. h ∙ sym same) fs st.0),
@@ -81,42 +80,13 @@ pub runs_better_first : (s : Side) (es : List Entry) → InRank s es → BetterF
 runs_better_first s [] ranked = tt
 runs_better_first s (e ∷ es) ranked = into_better_first s e (runs es) (runs_better_first s es ranked.1) (subst (AllByRecursion (λ f. rank_before s (rank_of e) (rank_of f) ≡ true)) (sym (runs_are_whole es)) ranked.0)
 
-in_rank_split : (s : Side) (xs ys : List Entry) → InRank s (xs ++ ys) → InRank s xs × InRank s ys
-in_rank_split s [] ys h = (tt, h)
-in_rank_split s (x ∷ xs) ys h =
-    let more = in_rank_split s xs ys h.1 in
-    (((all_split (λ f. rank_before s (rank_of x) (rank_of f) ≡ true) xs ys h.0).0, more.0), more.1)
-
 -- at one price those in rank are in order of time
 level_by_time : (s : Side) (p : ℕ) (es : List Entry) → InRank s es → AllByRecursion (λ e. e.price ≡ p) es → ByTime es
 level_by_time s p [] ranked level = tt
-level_by_time s p (e ∷ es) ranked level = (later es ranked.0 level.1, level_by_time s p es ranked.1 level.1)
-  where
-    later : (fs : List Entry) → AllByRecursion (λ f. rank_before s (rank_of e) (rank_of f) ≡ true) fs → AllByRecursion (λ f. f.price ≡ p) fs → AllByRecursion (λ f. class_of e ≡ class_of f → e.time < f.time) fs
-    later [] r l = tt
-    later (f ∷ fs) r l = (earlier_of s e f r.0 (level.0 ∙ sym l.0), later fs r.1 l.1)
-
-abbrev pub Sized : Entry → Type 0
-Sized e = (1 ≤ e.size) × (e.size ≤ 99999)
-
-pub tradable_runs : (s : Side) (b : ℕ) → b < 100000 → (rs : List (List Entry)) → BetterFirst s rs → InRank s (flat rs) → AllByRecursion Sized (flat rs) → length (flat rs) ≤ 256 → AllByRecursion (Tradable b) rs
-tradable_runs s b small [] st ranked sized few = tt
-tradable_runs s b small ([] ∷ rs) st ranked sized few = absurd st
-tradable_runs s b small ((e ∷ r) ∷ rs) st ranked sized few =
-    let long = length-append (e ∷ r) (flat rs) in
-    let ranks = in_rank_split s (e ∷ r) (flat rs) ranked in
-    let sizes = all_split Sized (e ∷ r) (flat rs) sized in (
-      record { few = omega (arith, long); small = small; sized = sizes.0; timed = level_by_time s e.price (e ∷ r) ranks.0 (refl, st.0) },
-      tradable_runs s b small rs st.2 ranks.1 sizes.1 (omega (arith, long)),
-    )
-
-pub kept_tradable : (q : Entry → Bool) (b : ℕ) (run : List Entry) → Tradable b run → Tradable b (filter q run)
-kept_tradable q b run ok = record {
-  few = omega (arith, length_kept q run, ok.few);
-  small = ok.small;
-  sized = all_kept_by q Sized run ok.sized;
-  timed = by_time_kept q run ok.timed;
-}
+level_by_time s p (e ∷ es) ranked level = (
+  all_both (λ f. rank_before s (rank_of e) (rank_of f) ≡ true) (λ f. f.price ≡ p) (λ f. class_of e ≡ class_of f → e.time < f.time) (λ f before at. earlier_of s e f before (level.0 ∙ sym at)) es ranked.0 level.1,
+  level_by_time s p es ranked.1 level.1,
+)
 
 -- what stands at a price
 pub at_tradable : (s : Side) (b : ℕ) → b < 100000 → (es : List Entry) → InRank s es → AllByRecursion Sized es → length es ≤ 256 → (p : ℕ) (free : Entry → Bool) → Tradable b (filter (λ e. eqb e.price p && free e) es)

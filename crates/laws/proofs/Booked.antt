@@ -1,13 +1,13 @@
 -- The tape of an order that trades, booked to every account. Assumes nothing.
-use Rattle.std.proofs.Common.{◌≡◌, ℕ, ◌+◌, ◌<◌, ◌≤◌, Bool, true, false, cond, ◌&&◌, ◌||◌, eqb, leb, List, [], ◌∷◌, length, Option, sym, refl, ap, ◌∙◌, subst, ⊎_elim, arith}
+use Rattle.std.proofs.Common.{◌≡◌, ℕ, ◌+◌, ◌<◌, ◌≤◌, Bool, true, false, cond, ◌&&◌, eqb, leb, List, [], ◌∷◌, length, Option, sym, refl, ap, ◌∙◌, subst, ⊎_elim, arith}
 use Rattle.std.specs.List.{AllByRecursion}
+use Rattle.std.proofs.lemmas.Bool.Decides.{nat_tests}
 use Rattle.std.proofs.lemmas.Bool.{cases_Bool, cond_both, eqb-true}
 use Rattle.ranked.specs.Ranked.{ahead}
 use Rattle.sharing.specs.Sharing.{Sharing, Lawful}
 use Rattle.sharing.specs.Totals.{one_if, total, count}
 use Rattle.sharing.specs.Allotted.{total_append}
 use Rattle.sharing.specs.Ordered.{total_inserted}
-use Rattle.rules.specs.declared.numbers.Cause.TheVariants.{Immediate, AwayPrice, NoPlaceOnReturn}
 use Rattle.rules.specs.declared.tape.Line.{Line}
 use Rattle.rules.specs.declared.tape.Line.TheVariants.{Fill, Cancel, Filled, Rest, Route}
 use Rattle.rules.specs.declared.terms.Entry.{Entry}
@@ -24,29 +24,21 @@ use Rattle.rules.specs.Sides.{other_side}
 use Rattle.rules.specs.Sound.{standing_with, Sound}
 use Rattle.rules.specs.Trade.{away_in_cap, Ending, ending, end_line, sized, resting_entry, ended, traded, finished, trade}
 use Rattle.rules.specs.Trade.Ending.{is_filled, is_routed, is_cancelled, rests}
-use Rattle.rules.specs.Walk.{runs, walk}
+use Rattle.rules.specs.Walk.{runs, flat, walk}
 use Rattle.rules.proofs.AllPrices.{all_prices}
 use Rattle.rules.proofs.CallsKeep.{same_book}
 use Rattle.rules.proofs.Leaves.{runs_are_whole}
-use Rattle.rules.proofs.Runs.{all_runs, always_tradable}
+use Rattle.rules.proofs.Runs.{always_tradable}
 use Rattle.laws.specs.Accounts.{got, traded_by, lost_by, sent_by}
 use Rattle.laws.specs.Balanced.{resting}
 use Rattle.laws.specs.Facts.{Rested, rest_or}
 use Rattle.laws.proofs.ById.{none_held}
 use Rattle.laws.proofs.Lines.{walk_all}
-use Rattle.laws.proofs.Lists.{every}
-
-or_true : (b c : Bool) → c ≡ true → (b || c) ≡ true
-or_true true c h = refl
-or_true false c h = h
-
-or_false : (b c : Bool) → c ≡ false → (b || c) ≡ b
-or_false true c h = refl
-or_false false c h = h
+use Rattle.laws.proofs.Lists.{every, total_each}
 
 -- in its own tape an order traded each fill
 own_line : (i own : ℕ) → eqb own i ≡ true → (l : Line) → traded_by i own l ≡ traded_in l
-own_line i own mine (Fill id firm size price step) = ap (λ b. cond b size 0) (or_true (eqb id i) (eqb own i) mine)
+own_line i own mine (Fill id firm size price step) = grind (arith, nat_tests, mine)
 own_line i own mine (Cancel id firm size cause) = refl
 own_line i own mine (Filled id firm) = refl
 own_line i own mine (Rest id firm size price) = refl
@@ -54,7 +46,7 @@ own_line i own mine (Route id firm size) = refl
 
 -- in another's, those that name it
 pub other_line : (i own : ℕ) → eqb own i ≡ false → (l : Line) → traded_by i own l ≡ got i l
-other_line i own else (Fill id firm size price step) = ap (λ b. cond b size 0) (or_false (eqb id i) (eqb own i) else)
+other_line i own else (Fill id firm size price step) = grind (arith, nat_tests, else)
 other_line i own else (Cancel id firm size cause) = refl
 other_line i own else (Filled id firm) = refl
 other_line i own else (Rest id firm size price) = refl
@@ -69,27 +61,17 @@ taken_line i (Route id firm size) = refl
 
 -- a line that does not name an order takes nothing from it
 unnamed_line : (i : ℕ) (l : Line) → one_if (names i l) ≡ 0 → taken_from i l ≡ 0
-unnamed_line i (Fill id firm size price step) none = go (eqb id i) none
-  where
-    go : (b : Bool) → one_if b ≡ 0 → cond b size 0 ≡ 0
-    go true h = absurd (omega arith)
-    go false h = refl
-unnamed_line i (Cancel id firm size cause) none = go (eqb id i) none
-  where
-    go : (b : Bool) → one_if b ≡ 0 → cond b size 0 ≡ 0
-    go true h = absurd (omega arith)
-    go false h = refl
+unnamed_line i (Fill id firm size price step) none = grind (arith, nat_tests)
+unnamed_line i (Cancel id firm size cause) none = grind (arith, nat_tests)
 unnamed_line i (Filled id firm) none = refl
 unnamed_line i (Rest id firm size price) none = refl
 unnamed_line i (Route id firm size) none = refl
 
 pub own_lines : (i own : ℕ) → eqb own i ≡ true → (ls : List Line) → total (traded_by i own) ls ≡ total traded_in ls
-own_lines i own mine [] = refl
-own_lines i own mine (l ∷ ls) = λ t. own_line i own mine l t + own_lines i own mine ls t
+own_lines i own mine = total_each (traded_by i own) traded_in (own_line i own mine)
 
 pub other_lines : (i own : ℕ) → eqb own i ≡ false → (ls : List Line) → total (traded_by i own) ls ≡ total (got i) ls
-other_lines i own else [] = refl
-other_lines i own else (l ∷ ls) = λ t. other_line i own else l t + other_lines i own else ls t
+other_lines i own else = total_each (traded_by i own) (got i) (other_line i own else)
 
 taken_lines : (i : ℕ) (ls : List Line) → total (got i) ls + total (lost_by i) ls ≡ total (taken_from i) ls
 taken_lines i [] = refl
@@ -136,22 +118,14 @@ ending_closes : (o : Routed) (may : Bool) (b : ℕ) (m : Model) → Closes b (en
 unfolding ending
 ending_closes o may b m =
     let near = away_in_cap o.side o.cap (away (other_side o.side) m) in
-    let e5 = cond (leb (places o.side m) (length (entries o.side m))) (is_cancelled NoPlaceOnReturn) rests in
-    let e4 = cond near (is_cancelled AwayPrice) e5 in
-    let e3 = cond (is_ioc o.term) (is_cancelled Immediate) e4 in
-    let e2 = cond (near && may) is_routed e3 in
-    cond_both (eqb b 0) is_filled e2 (Closes b) (λ none. eqb-true b 0 none)
-    (λ _. cond_both (near && may) is_routed e3 (Closes b) (λ _. tt)
-    (λ _. cond_both (is_ioc o.term) (is_cancelled Immediate) e4 (Closes b) (λ _. tt)
-    (λ _. cond_both near (is_cancelled AwayPrice) e5 (Closes b) (λ _. tt)
-    (λ _. cond_both (leb (places o.side m) (length (entries o.side m))) (is_cancelled NoPlaceOnReturn) rests (Closes b) (λ _. tt) (λ _. tt)))))
+    cond_both (eqb b 0) _ _ (Closes b) (λ none. eqb-true b 0 none)
+    (λ _. cond_both (near && may) _ _ (Closes b) (λ _. tt)
+    (λ _. cond_both (is_ioc o.term) _ _ (Closes b) (λ _. tt)
+    (λ _. cond_both near _ _ (Closes b) (λ _. tt)
+    (λ _. cond_both (leb (places o.side m) (length (entries o.side m))) _ _ (Closes b) (λ _. tt) (λ _. tt)))))
 
 end_booked : (o : Routed) (b : ℕ) (e : Ending) (m : Model) (i : ℕ) → Closes b e → ((resting i (ended o b e m) + traded_by i o.id (end_line o b e)) + lost_by i (end_line o b e)) + sent_by i (end_line o b e) ≡ resting i m + cond (eqb o.id i) b 0
-end_booked o b is_filled m i none = go (eqb o.id i)
-  where
-    go : (c : Bool) → ((resting i m + 0) + 0) + 0 ≡ resting i m + cond c b 0
-    go true = omega (arith, none)
-    go false = omega arith
+end_booked o b is_filled m i none = grind (arith, nat_tests, none)
 end_booked o b is_routed m i closes = omega arith
 end_booked o b (is_cancelled why) m i closes = omega arith
 end_booked o b rests m i closes =
@@ -189,7 +163,7 @@ traded_walked rule lawful o m sound small =
     let contra = other_side o.side in
     let es = entries contra m in
     let c = all_prices rule lawful o (national_best contra m) (away contra m) o.size (runs es) (always_tradable m sound contra o.size small) in
-    let plain = walk_all (λ _. Unit {0}) (λ n e h. tt) Plain (λ e n k h. (λ i. refl, λ r. refl)) (λ e h. (λ i. refl, λ r. refl)) rule o (national_best contra m) (away contra m) o.size (runs es) (all_runs (λ _. Unit {0}) es (every (λ _. Unit {0}) (λ _. tt) es)) in
+    let plain = walk_all (λ _. Unit {0}) (λ n e h. tt) Plain (λ e n k h. (λ i. refl, λ r. refl)) (λ e h. (λ i. refl, λ r. refl)) rule o (national_best contra m) (away contra m) o.size (runs es) (every (λ _. Unit {0}) (λ _. tt) (flat (runs es))) in
     record {
       pays = c.pays;
       accounts = λ i. c.accounts i ∙ ap (holding i) (runs_are_whole es);

@@ -1,19 +1,25 @@
 -- One price as five rounds over the entries that stood there. Assumes nothing.
-use Rattle.std.proofs.Common.{◌≡◌, ℕ, ◌+◌, ◌-◌, ◌≤◌, Bool, true, false, cond, ltb, ◌⊎◌, List, [], ◌∷◌, ◌++◌, map, length, Some, None, filter, Option, sym, refl, ap, ◌∙◌, inl, inr, ⊎_elim, arith}
+use Rattle.std.proofs.Common.{◌≡◌, ℕ, ◌-◌, Bool, true, false, cond, ltb, ◌⊎◌, List, [], ◌∷◌, ◌++◌, map, length, Some, None, filter, Option, sym, refl, ap, ◌∙◌, inl, inr, ⊎_elim, arith}
 use Rattle.std.specs.List.{AllByRecursion}
+use Rattle.std.proofs.lemmas.Bool.Decides.{nat_tests}
 use Rattle.std.proofs.lemmas.Bool.{cond_both, lt-ltb, cases_Bool}
 use Rattle.sharing.specs.Sharing.{Sharing}
-use Rattle.sharing.specs.Totals.{one_if, total, count}
+use Rattle.sharing.specs.Totals.{total, count}
 use Rattle.rules.specs.declared.tape.Line.{Line}
 use Rattle.rules.specs.declared.tape.Line.TheVariants.{Fill}
 use Rattle.rules.specs.declared.tape.Step.{Step}
 use Rattle.rules.specs.declared.terms.Entry.{Entry}
 use Rattle.rules.specs.Level.{claim_of, first_or_0, but_first, spread, resized, left_after, fills, Deal, step, quote_of, specialist, in_group}
-use Rattle.rules.proofs.Held.{sized_left}
+use Rattle.rules.proofs.Held.{Sized, sized_left}
 
 pub kept_same : {X : Type 0} (p q : X → Bool) (xs : List X) → AllByRecursion (λ x. p x ≡ q x) xs → filter p xs ≡ filter q xs
 kept_same p q [] same = refl
 kept_same p q (x ∷ xs) same = λ t. cond (same.0 t) (x ∷ kept_same p q xs same.1 t) (kept_same p q xs same.1 t)
+
+-- where none passes, none is kept
+pub none_pass : {X : Type 0} (q : X → Bool) (xs : List X) → AllByRecursion (λ x. q x ≡ false) xs → filter q xs ≡ []
+none_pass q [] h = refl
+none_pass q (x ∷ xs) h = (λ t. cond (h.0 t) (x ∷ filter q xs) (filter q xs)) ∙ none_pass q xs h.1
 
 -- the lines of a step are those of the entries that pass its test
 fills_spread : (k : Step) (test : Entry → Bool) (ns : List ℕ) (es : List Entry) → length ns ≡ length (filter test es) → fills k (spread test ns es) es ≡ fills k ns (filter test es)
@@ -33,16 +39,16 @@ abbrev pub Steady : (Entry → Bool) → Type 0
 Steady q = (n : ℕ) (e : Entry) → q (resized n e) ≡ q e
 
 -- entries that are not in a step stay as they are
-kept_left : (test q : Entry → Bool) → Steady q → ((e : Entry) → test e ≡ true → q e ≡ false) → (ns : List ℕ) (es : List Entry) → AllByRecursion (λ e. (1 ≤ e.size) × (e.size ≤ 99999)) es → filter q (left_after (spread test ns es) es) ≡ filter q es
+kept_left : (test q : Entry → Bool) → Steady q → ((e : Entry) → test e ≡ true → q e ≡ false) → (ns : List ℕ) (es : List Entry) → AllByRecursion Sized es → filter q (left_after (spread test ns es) es) ≡ filter q es
 kept_left test q steady apart ns [] sized = refl
 kept_left test q steady apart ns (e ∷ es) sized =
-    cond_both (test e) (first_or_0 ns ∷ spread test (but_first ns) es) (0 ∷ spread test ns es) (λ l. filter q (left_after l (e ∷ es)) ≡ filter q (e ∷ es))
+    cond_both (test e) _ _ (λ l. filter q (left_after l (e ∷ es)) ≡ filter q (e ∷ es))
     (λ here.
     let m = first_or_0 ns in
     let rest = left_after (spread test (but_first ns) es) es in
     let out = apart e here in
     let more = kept_left test q steady apart (but_first ns) es sized.1 ∙ sym (ap (λ b. cond b (e ∷ filter q es) (filter q es)) out) in
-    cond_both (ltb m e.size) (resized (e.size - m) e ∷ rest) rest (λ l. filter q l ≡ filter q (e ∷ es))
+    cond_both (ltb m e.size) _ _ (λ l. filter q l ≡ filter q (e ∷ es))
     (λ _. ap (λ b. cond b (resized (e.size - m) e ∷ filter q rest) (filter q rest)) (steady (e.size - m) e ∙ out) ∙ more)
     (λ _. more))
     (λ _.
@@ -57,7 +63,7 @@ kept_left test q steady apart ns (e ∷ es) sized =
 pub record ComesTo (run : List Entry) (before : Entry → Type 0) (b : ℕ) (lines : List Line) (d : Deal) : Type 0 where
   pub balance : d.balance ≡ b
   pub tape : d.lines ≡ lines
-  pub sized : AllByRecursion (λ e. (1 ≤ e.size) × (e.size ≤ 99999)) d.run
+  pub sized : AllByRecursion Sized d.run
   pub same : (q : Entry → Bool) → Steady q → ((e : Entry) → q e ≡ true → before e → ⊥) → filter q d.run ≡ filter q run
 
 module _ (run : List Entry) (before : Entry → Type 0) (b : ℕ) (lines : List Line) (d : Deal) (at : ComesTo run before b lines d)
@@ -85,7 +91,7 @@ module _ (run : List Entry) (before : Entry → Type 0) (b : ℕ) (lines : List 
 -- the group, from the entries of its class
 count_kept : (q : Entry → Bool) (es : List Entry) → count q es ≡ total (λ _. 1) (filter q es)
 count_kept q [] = refl
-count_kept q (e ∷ es) = elim (q e) as (λ b. one_if b + count q es ≡ total (λ _. 1) (cond b (e ∷ filter q es) (filter q es))) [ true ↦ ap (λ n. 1 + n) (count_kept q es) | false ↦ omega (arith, count_kept q es) ]
+count_kept q (e ∷ es) = grind (arith, nat_tests, count_kept q es)
 
 pub group_same : (directed : Option ℕ) (es fs : List Entry) → ((firm : ℕ) → filter (quote_of firm) es ≡ filter (quote_of firm) fs) → in_group directed es ≡ in_group directed fs
 group_same None es fs same = refl

@@ -1,12 +1,12 @@
 -- What the orders of the two sides traded here adds up to the same. Assumes nothing.
-use Rattle.std.proofs.Common.{◌≡◌, ℕ, ◌+◌, ◌-◌, ◌<◌, Bool, true, false, cond, ◌&&◌, ◌||◌, eqb, List, [], ◌∷◌, Some, None, Option, sym, refl, ap, ◌∙◌, subst, ⊎_elim, arith}
+use Rattle.std.proofs.Common.{◌≡◌, ℕ, ◌+◌, ◌-◌, ◌<◌, Bool, false, cond, ◌&&◌, ◌||◌, eqb, List, [], ◌∷◌, Some, None, Option, sym, refl, ap, ◌∙◌, subst, ⊎_elim, arith}
 use Rattle.std.specs.List.{AllByRecursion}
 use Rattle.std.proofs.ByRecursion.{All-append}
-use Rattle.std.proofs.lemmas.Bool.{true≢false, cases_Bool, cond_both, cond-true, cond-false, eqb-true, eq-eqb, ne_eqb, ltb-false}
+use Rattle.std.proofs.lemmas.Bool.Decides.{nat_tests}
+use Rattle.std.proofs.lemmas.Bool.{cases_Bool, cond-true, cond-false, eqb-true, eq-eqb, ltb-false}
 use Rattle.sharing.specs.Totals.{one_if, total, count}
 use Rattle.sharing.specs.Sharing.{Sharing}
 use Rattle.rules.specs.declared.numbers.Refusal.{Refusal}
-use Rattle.rules.specs.declared.numbers.Refusal.TheVariants.{NotOutHere}
 use Rattle.rules.specs.declared.tape.Line.{Line}
 use Rattle.rules.specs.declared.tape.Line.TheVariants.{Fill, Cancel, Filled, Rest, Route}
 use Rattle.rules.specs.declared.terms.Entry.{Entry}
@@ -15,17 +15,17 @@ use Rattle.rules.specs.declared.terms.Routed.{Routed}
 use Rattle.rules.specs.declared.terms.Side.{Side}
 use Rattle.rules.specs.declared.terms.Side.TheVariants.{Buy, Sell}
 use Rattle.rules.specs.Laws.{traded_in}
-use Rattle.rules.specs.Calls.{Entering, entry_checks, capped, least_missed, missed, entry_of, Returning, without_row, return_checks, returned, return_of, Resizing, resize_of, Cancelling, cancel_of, Updating, market_of}
+use Rattle.rules.specs.Calls.{Entering, capped, missed, entry_of, Returning, without_row, return_of, resize_of, cancel_of, market_of}
 use Rattle.rules.specs.Model.{Model, Opening, entries, away, with_entries, with_out, with_last_id, national_best}
-use Rattle.rules.specs.Outcome.{Done, Outcome, lent_checks, row_with}
+use Rattle.rules.specs.Outcome.{Done, Outcome}
 use Rattle.rules.specs.Outcome.Outcome.{refused, done}
 use Rattle.rules.specs.Sound.{standing_with}
 use Rattle.rules.specs.Sides.{other_side}
 use Rattle.rules.specs.Trade.{Ending, ending, end_line, sized, traded, finished, trade}
 use Rattle.rules.specs.Trade.Ending.{is_filled, is_routed, is_cancelled, rests}
 use Rattle.rules.specs.Walk.{runs}
-use Rattle.rules.proofs.CallsKeep.{checked_by, EntryFits, entry_fits}
-use Rattle.rules.proofs.Runs.{all_runs}
+use Rattle.rules.proofs.CallsKeep.{entry_by, return_by, EntryFits, entry_fits}
+use Rattle.rules.proofs.Leaves.{runs_are_whole}
 use Rattle.laws.specs.Accounts.{traded_by, account}
 use Rattle.laws.specs.Balanced.{traded_on}
 use Rattle.laws.specs.Facts.{Arrived, arrived, orders, same_side}
@@ -37,7 +37,7 @@ use Rattle.laws.proofs.AfterTrade.{known_resized}
 use Rattle.laws.proofs.Booked.{side_fresh}
 use Rattle.laws.proofs.ById.{others_differ}
 use Rattle.laws.proofs.Lines.{walk_all}
-use Rattle.laws.proofs.Lists.{all_and, cond_none, cond_plus}
+use Rattle.laws.proofs.Lists.{all_and, total_none, total_each, cond_none}
 use Rattle.laws.proofs.Tied.{Comes, Tied}
 use Rattle.laws.proofs.Trading.{entry_trade_told, entry_fresh, known_counted, row_id, row_comes, return_fresh, known_given}
 
@@ -64,39 +64,21 @@ NamesOther rs contra own (Route id firm size) = Unit {0}
 
 total_cond_plus : {X : Type 0} (p : X → Bool) (f g : X → ℕ) (xs : List X) → total (λ x. cond (p x) (f x + g x) 0) xs ≡ total (λ x. cond (p x) (f x) 0) xs + total (λ x. cond (p x) (g x) 0) xs
 total_cond_plus p f g [] = refl
-total_cond_plus p f g (x ∷ xs) = omega (arith, cond_plus (p x) (f x) (g x), total_cond_plus p f g xs)
+total_cond_plus p f g (x ∷ xs) = grind (arith, nat_tests, total_cond_plus p f g xs)
 
 total_cond_none : {X : Type 0} (p : X → Bool) (xs : List X) → total (λ x. cond {A = ℕ} (p x) 0 0) xs ≡ 0
 total_cond_none p [] = refl
-total_cond_none p (x ∷ xs) = omega (arith, cond_none (p x), total_cond_none p xs)
+total_cond_none p (x ∷ xs) = grind (arith, nat_tests, total_cond_none p xs)
 
--- what n for each that passes adds up to
-count_none : {X : Type 0} (p : X → Bool) (n : ℕ) (xs : List X) → count p xs ≡ 0 → total (λ x. cond (p x) n 0) xs ≡ 0
-count_none p n [] none = refl
-count_none p n (x ∷ xs) none = omega (arith, zero (p x) (omega arith), count_none p n xs (omega arith))
-  where
-    zero : (b : Bool) → one_if b ≡ 0 → cond b n 0 ≡ 0
-    zero true h = absurd (omega arith)
-    zero false h = refl
-
+-- what n for the one that passes adds up to
 count_one : {X : Type 0} (p : X → Bool) (n : ℕ) (xs : List X) → count p xs ≡ 1 → total (λ x. cond (p x) n 0) xs ≡ n
 count_one p n [] one = absurd (omega arith)
-count_one p n (x ∷ xs) one =
-    ⊎_elim
-    (λ here. let first = ap one_if here in omega (arith, ap (λ b. cond b n 0) here, count_none p n xs (omega arith)))
-    (λ else. let first = ap one_if else in omega (arith, ap (λ b. cond b n 0) else, count_one p n xs (omega arith)))
-    (cases_Bool (p x))
+count_one p n (x ∷ xs) one = grind (arith, nat_tests, count_one p n xs, total_none p (λ _. n) xs)
 
 -- of two ids that differ each order has one at most
 either_one : (id own : ℕ) (s : Side) (os : List Order) → eqb own id ≡ false → count (λ o. (eqb id o.id || eqb own o.id) && same_side o.side s) os ≡ count (is_order id s) os + count (is_order own s) os
 either_one id own s [] differ = refl
-either_one id own s (o ∷ os) differ = omega (arith, apart (eqb id o.id) refl (eqb own o.id) refl (same_side o.side s), either_one id own s os differ)
-  where
-    apart : (a : Bool) → eqb id o.id ≡ a → (b : Bool) → eqb own o.id ≡ b → (x : Bool) → one_if ((a || b) && x) ≡ one_if (a && x) + one_if (b && x)
-    apart true ha true hb x = absurd (true≢false (sym (eq-eqb own id (eqb-true own o.id hb ∙ sym (eqb-true id o.id ha))) ∙ differ))
-    apart true ha false hb x = omega arith
-    apart false ha true hb x = omega arith
-    apart false ha false hb x = omega arith
+either_one id own s (o ∷ os) differ = grind (arith, nat_tests, either_one id own s os differ)
 
 side_sum : (t s : Side) → one_if (same_side (other_side t) s) + one_if (same_side t s) ≡ 1
 side_sum Buy Buy = refl
@@ -105,10 +87,7 @@ side_sum Sell Buy = refl
 side_sum Sell Sell = refl
 
 cond_and : (a b : Bool) (n : ℕ) → cond b (cond a n 0) 0 ≡ cond (a && b) n 0
-cond_and true true n = refl
-cond_and true false n = refl
-cond_and false true n = refl
-cond_and false false n = refl
+cond_and a b n = grind (arith, nat_tests)
 
 -- a tape is booked once on each side
 module _ (rs : List Told) (own : ℕ) (t : Side) (once : (i : ℕ) (s : Side) → count (is_order i s) (orders rs) ≡ came_on s (arrived i rs)) (mine : (s : Side) → came_on s (arrived own rs) ≡ one_if (same_side t s)) where
@@ -117,10 +96,6 @@ module _ (rs : List Told) (own : ℕ) (t : Side) (once : (i : ℕ) (s : Side) �
       total_each (λ o. cond (same_side o.side s) (cond (eqb id o.id || eqb own o.id) size 0) 0) (λ o. cond ((eqb id o.id || eqb own o.id) && same_side o.side s) size 0) (λ o. cond_and (eqb id o.id || eqb own o.id) (same_side o.side s) size) (orders rs)
       ∙ count_one (λ o. (eqb id o.id || eqb own o.id) && same_side o.side s) size (orders rs)
       (omega (arith, either_one id own s (orders rs) named.0, once id s, once own s, named.1 s, mine s, side_sum t s))
-    where
-      total_each : (f g : Order → ℕ) → ((o : Order) → f o ≡ g o) → (os : List Order) → total f os ≡ total g os
-      total_each f g same [] = refl
-      total_each f g same (o ∷ os) = λ i. same o i + total_each f g same os i
   line_booked s (Cancel id firm size cause) named = total_cond_none (λ o. same_side o.side s) (orders rs)
   line_booked s (Filled id firm) named = total_cond_none (λ o. same_side o.side s) (orders rs)
   line_booked s (Rest id firm size price) named = total_cond_none (λ o. same_side o.side s) (orders rs)
@@ -155,14 +130,14 @@ module _ (r : Told) (rs : List Told) (o : Routed) (m : Model) (told : (i : ℕ) 
       let d = traded rule o m in
       All-append (NamesOther (r ∷ rs) contra o.id) d.lines (end_line o d.balance (ending o may d.balance (with_entries contra d.run m)) ∷ [])
       (walk_all Another (λ n e h. (known_resized contra rs n e h.0, h.1)) (NamesOther (r ∷ rs) contra o.id) (λ e n k h. (h.1, another_side e h)) (λ e h. tt) rule o (national_best contra m) (away contra m) o.size (runs es)
-      (all_runs Another es (all_and (Known contra rs) (λ e. eqb o.id e.id ≡ false) es known (others_differ (λ (x : Entry). x.id) o.id es (side_fresh contra o.id m fresh)))))
+      (subst (AllByRecursion Another) (sym (runs_are_whole es)) (all_and (Known contra rs) (λ e. eqb o.id e.id ≡ false) es known (others_differ (λ (x : Entry). x.id) o.id es (side_fresh contra o.id m fresh)))))
       (end_names d.balance (ending o may d.balance (with_entries contra d.run m)), tt)
 
 comes_on : (tick : ℕ) (rs : List Told) (o : Routed) → Comes tick rs o → (s : Side) → came_on s (arrived o.id rs) ≡ one_if (same_side o.side s)
 comes_on tick rs o k s = ap (came_on s) k.found ∙ ap (λ x. one_if (same_side x s)) k.side
 
 eqb_swap : (a b : ℕ) → eqb a b ≡ eqb b a
-eqb_swap a b = ⊎_elim (λ same. same ∙ sym (eq-eqb b a (sym (eqb-true a b same)))) (λ differ. differ ∙ sym (ne_eqb b a (λ same. true≢false (sym (eq-eqb a b (sym same)) ∙ differ)))) (cases_Bool (eqb a b))
+eqb_swap a b = grind (arith, nat_tests)
 
 -- a call that enters nothing and has no tape
 quiet : (r : Told) (rs : List Told) → Even rs → (orders (r ∷ rs) ≡ orders rs) → ((i : ℕ) → arrived i (r ∷ rs) ≡ arrived i rs) → ((i : ℕ) → (account i (r ∷ rs)).traded_here ≡ (account i rs).traded_here) → Even (r ∷ rs)
@@ -171,28 +146,16 @@ quiet r rs even same came here = record {
   sides = on Buy ∙ even.sides ∙ sym (on Sell);
 }
   where
-    each : (s : Side) (os : List Order) → total (λ o. cond (same_side o.side s) (account o.id (r ∷ rs)).traded_here 0) os ≡ total (λ o. cond (same_side o.side s) (account o.id rs).traded_here 0) os
-    each s [] = refl
-    each s (o ∷ os) = λ t. cond (same_side o.side s) (here o.id t) 0 + each s os t
-
     on : (s : Side) → traded_on s (r ∷ rs) ≡ traded_on s rs
-    on s = each s (orders (r ∷ rs)) ∙ ap (total (λ o. cond (same_side o.side s) (account o.id rs).traded_here 0)) same
+    on s = total_each (λ o. cond (same_side o.side s) (account o.id (r ∷ rs)).traded_here 0) (λ o. cond (same_side o.side s) (account o.id rs).traded_here 0) (λ o. ap (λ n. cond (same_side o.side s) n 0) (here o.id)) (orders (r ∷ rs)) ∙ ap (total (λ o. cond (same_side o.side s) (account o.id rs).traded_here 0)) same
 
 module _ (c : Opening) (rs : List Told) (m : Model) (tied : Tied c rs m) (even : Even rs) where
   even_refused : (k : Call) (why : Refusal) → Even (turned_down k why ∷ rs)
   even_refused k why = quiet (turned_down k why) rs even refl (λ i. refl) (λ i. refl)
 
-  even_resize : (u : Resizing) (out : Outcome) → Even (tell (resizes u) out ∷ rs)
-  even_resize u (refused why) = even_refused (resizes u) why
-  even_resize u (done d) = quiet (carried_out (resizes u) d.answer d.lines) rs even refl (λ i. refl) (λ i. refl)
-
-  even_cancel : (u : Cancelling) (out : Outcome) → Even (tell (cancels u) out ∷ rs)
-  even_cancel u (refused why) = even_refused (cancels u) why
-  even_cancel u (done d) = quiet (carried_out (cancels u) d.answer d.lines) rs even refl (λ i. refl) (λ i. refl)
-
-  even_market : (u : Updating) (out : Outcome) → Even (tell (updates u) out ∷ rs)
-  even_market u (refused why) = even_refused (updates u) why
-  even_market u (done d) = quiet (carried_out (updates u) d.answer d.lines) rs even refl (λ i. refl) (λ i. refl)
+  even_told : (k : Call) → ((d : Done) → Even (carried_out k d.answer d.lines ∷ rs)) → (out : Outcome) → Even (tell k out ∷ rs)
+  even_told k carried (refused why) = even_refused k why
+  even_told k carried (done d) = carried d
 
   -- an order that was not told of before traded nothing
   fresh_here : (i : ℕ) → m.counters.last_id < i → (account i rs).traded_here ≡ 0
@@ -232,41 +195,32 @@ module _ (c : Opening) (rs : List Told) (m : Model) (tied : Tied c rs m) (even :
           total_cond_plus (λ (x : Order). same_side x.side s) (λ x. (account x.id rs).traded_here) (λ x. total (traded_by x.id u.id) d.lines) (orders rs) ∙ (λ i. traded_on s rs + tape i)
 
   even_entry : (rule : LawfulRule) (u : Entering) → Even (tell (enters rule u) (entry_of rule.shares u m) ∷ rs)
-  unfolding entry_of
   even_entry rule u =
       let o = u.order in
       let counted = with_last_id o.id m in
       let d1 = missed o counted in
       let d2 = trade rule.shares (capped o m) o.may_route counted in
-      checked_by (λ out. Even (tell (enters rule u) out ∷ rs)) (λ why. even_refused (enters rule u) why)
-      (entry_checks u m) (done (cond (least_missed o m) d1 d2))
-      (λ all.
+      entry_by (λ out. Even (tell (enters rule u) out ∷ rs)) (even_refused (enters rule u)) rule.shares u m
+      (λ all _. even_entered rule u (entry_fits u m tied.sound all) d1 (tt, tt))
+      (λ all _.
       let fits = entry_fits u m tied.sound all in
-      cond_both (least_missed o m) d1 d2 (λ d. Even (carried_out (enters rule u) d.answer d.lines ∷ rs))
-      (λ _. even_entered rule u fits d1 (tt, tt))
-      (λ _. even_entered rule u fits d2 (trade_names (carried_out (enters rule u) d2.answer d2.lines) rs (capped o m) counted (entry_trade_told c rs m tied rule u fits d2).came (entry_fresh c rs m tied rule u fits) (known_counted c rs m tied rule u fits (other_side o.side)) rule.shares o.may_route)))
+      even_entered rule u fits d2 (trade_names (carried_out (enters rule u) d2.answer d2.lines) rs (capped o m) counted (entry_trade_told c rs m tied rule u fits d2).came (entry_fresh c rs m tied rule u fits) (known_counted c rs m tied rule u fits (other_side o.side)) rule.shares o.may_route))
 
   even_return : (rule : LawfulRule) (u : Returning) → Even (tell (returns rule u) (return_of rule.shares u m) ∷ rs)
-  unfolding return_of
-  even_return rule u = go (row_with u.id m.out) refl
-    where
-      go : (x : Option Routed) → row_with u.id m.out ≡ x → Even (tell (returns rule u) (returned rule.shares u m x) ∷ rs)
-      go None found = checked_by (λ out. Even (tell (returns rule u) out ∷ rs)) (λ why. even_refused (returns rule u) why) (lent_checks u.tape u.sheet m []) (refused NotOutHere) (λ _. even_refused (returns rule u) NotOutHere)
-      go (Some row) found =
-          let back = sized (row.size - u.executed) row in
-          let given = with_out (without_row u.id m.out) m in
-          let d = trade rule.shares back false given in
-          checked_by (λ out. Even (tell (returns rule u) out ∷ rs)) (λ why. even_refused (returns rule u) why) (return_checks u m row) (done d)
-          (λ all.
-          let enough = ltb-false row.size u.executed all.1.1.1.0 in
-          let same = row_id c rs m tied rule u row found enough in
-          even_returned rule u d row.side (subst (λ j. (s : Side) → came_on s (arrived j rs) ≡ one_if (same_side row.side s)) same (comes_on c.tick rs row (row_comes c rs m tied rule u row found enough)))
-          (subst (λ j. AllByRecursion (NamesOther (carried_out (returns rule u) d.answer d.lines ∷ rs) (other_side row.side) j) d.lines) same
-          (trade_names (carried_out (returns rule u) d.answer d.lines) rs back given (λ i else. refl) (return_fresh c rs m tied rule u row found enough) (known_given c rs m tied rule u row found enough (other_side row.side)) rule.shares false)))
+  even_return rule u =
+      return_by (λ out. Even (tell (returns rule u) out ∷ rs)) (even_refused (returns rule u)) rule.shares u m (λ row found all.
+      let back = sized (row.size - u.executed) row in
+      let given = with_out (without_row u.id m.out) m in
+      let d = trade rule.shares back false given in
+      let enough = ltb-false row.size u.executed all.1.1.1.0 in
+      let same = row_id c rs m tied rule u row found enough in
+      even_returned rule u d row.side (subst (λ j. (s : Side) → came_on s (arrived j rs) ≡ one_if (same_side row.side s)) same (comes_on c.tick rs row (row_comes c rs m tied rule u row found enough)))
+      (subst (λ j. AllByRecursion (NamesOther (carried_out (returns rule u) d.answer d.lines ∷ rs) (other_side row.side) j) d.lines) same
+      (trade_names (carried_out (returns rule u) d.answer d.lines) rs back given (λ i else. refl) (return_fresh c rs m tied rule u row found enough) (known_given c rs m tied rule u row found enough (other_side row.side)) rule.shares false)))
 
   pub even_next : (k : Call) → Even (tell k (outcome k m) ∷ rs)
   even_next (enters rule u) = even_entry rule u
   even_next (returns rule u) = even_return rule u
-  even_next (resizes u) = even_resize u (resize_of u m)
-  even_next (cancels u) = even_cancel u (cancel_of u m)
-  even_next (updates u) = even_market u (market_of u m)
+  even_next (resizes u) = even_told (resizes u) (λ d. quiet (carried_out (resizes u) d.answer d.lines) rs even refl (λ i. refl) (λ i. refl)) (resize_of u m)
+  even_next (cancels u) = even_told (cancels u) (λ d. quiet (carried_out (cancels u) d.answer d.lines) rs even refl (λ i. refl) (λ i. refl)) (cancel_of u m)
+  even_next (updates u) = even_told (updates u) (λ d. quiet (carried_out (updates u) d.answer d.lines) rs even refl (λ i. refl) (λ i. refl)) (market_of u m)

@@ -13,7 +13,7 @@ use Rattle.rules.specs.declared.terms.Entry.{Entry}
 use Rattle.rules.specs.declared.terms.Side.{Side}
 use Rattle.rules.specs.declared.terms.Side.TheVariants.{Buy, Sell}
 use Rattle.rules.specs.Laws.{traded_in}
-use Rattle.rules.specs.Level.{size_of, fills, barred_line}
+use Rattle.rules.specs.Level.{size_of, fills}
 use Rattle.rules.specs.Numbers.{step_number}
 use Rattle.rules.specs.Sides.{other_side, is_better}
 use Rattle.laws.specs.Accounts.{got}
@@ -39,66 +39,46 @@ priced_weaker P Q f (Route id firm size) h = tt
 pub all_priced : (P Q : ℕ → Type 0) → ((p : ℕ) → P p → Q p) → (ls : List Line) → AllByRecursion (Priced P) ls → AllByRecursion (Priced Q) ls
 all_priced P Q f ls h = All-weaker (Priced P) (Priced Q) (priced_weaker P Q f) ls h
 
-pub priced_fills : (Q : ℕ → Type 0) (k : Step) (ns : List ℕ) (cs : List Entry) → AllByRecursion (λ e. Q e.price) cs → AllByRecursion (Priced Q) (fills k ns cs)
-priced_fills Q k [] cs h = tt
-priced_fills Q k (n ∷ ns) [] h = tt
-priced_fills Q k (n ∷ ns) (e ∷ cs) h =
-    cond_both (ltb 0 n) (Fill e.id e.firm n e.price k ∷ fills k ns cs) (fills k ns cs) (AllByRecursion (Priced Q))
-    (λ _. (h.0, priced_fills Q k ns cs h.1)) (λ _. priced_fills Q k ns cs h.1)
-
-pub priced_barred : (Q : ℕ → Type 0) (cs : List Entry) → AllByRecursion (Priced Q) (map barred_line cs)
-priced_barred Q [] = tt
-priced_barred Q (e ∷ cs) = (tt, priced_barred Q cs)
-
 -- the fills of a round, where a test tells whether they count
 pub read_fills : (g : Line → ℕ) (b : Bool) (k : Step) (ns : List ℕ) (cs : List Entry) → length ns ≡ length cs → AllByRecursion (λ e. (n : ℕ) → g (Fill e.id e.firm n e.price k) ≡ cond b n 0) cs → total g (fills k ns cs) ≡ cond b (total (λ n. n) ns) 0
 read_fills g b k [] cs long h = sym (cond_none b)
 read_fills g b k (n ∷ ns) [] long h = absurd (omega arith)
 read_fills g b k (n ∷ ns) (e ∷ cs) long h =
     let more = read_fills g b k ns cs (omega arith) h.1 in
-    cond_both (ltb 0 n) (Fill e.id e.firm n e.price k ∷ fills k ns cs) (fills k ns cs) (λ l. total g l ≡ cond b (n + total (λ m. m) ns) 0)
+    cond_both (ltb 0 n) _ _ (λ l. total g l ≡ cond b (n + total (λ m. m) ns) 0)
     (λ _. (λ t. h.0 n t + more t) ∙ sym (cond_plus b n (total (λ m. m) ns)))
     (λ small. let none : n ≡ 0 = omega (arith, ltb-false 0 n small) in more ∙ ap (λ m. cond b m 0) (omega arith))
 
 pub level_test : (s : Side) (q p : ℕ) (c : Bool) → q ≡ p → (is_better s q p || (eqb q p && c)) ≡ c
-level_test Buy q p true same = grind (arith, nat_tests)
-level_test Buy q p false same = grind (arith, nat_tests)
-level_test Sell q p true same = grind (arith, nat_tests)
-level_test Sell q p false same = grind (arith, nat_tests)
+level_test Buy q p c same = grind (arith, nat_tests)
+level_test Sell q p c same = grind (arith, nat_tests)
 
 better_test : (s : Side) (q p : ℕ) (c : Bool) → is_better s q p ≡ true → (is_better s q p || (eqb q p && c)) ≡ true
 better_test s q p c h = ap (λ b. b || (eqb q p && c)) h
 
 pub worse_test : (s : Side) (q p : ℕ) (c : Bool) → is_better s p q ≡ true → (is_better s q p || (eqb q p && c)) ≡ false
-worse_test Buy q p true h = grind (arith, nat_tests)
-worse_test Buy q p false h = grind (arith, nat_tests)
-worse_test Sell q p true h = grind (arith, nat_tests)
-worse_test Sell q p false h = grind (arith, nat_tests)
+worse_test Buy q p c h = grind (arith, nat_tests)
+worse_test Sell q p c h = grind (arith, nat_tests)
 
 module _ (sc : Scene) (p k : ℕ) where
-  -- fills at a better price are all earlier
-  pub better_earlier : (ls : List Line) → AllByRecursion (Priced (λ q. is_better (other_side sc.side) q p ≡ true)) ls → total (earlier sc p k) ls ≡ total traded_in ls
-  better_earlier [] h = refl
-  better_earlier (l ∷ ls) h = λ t. one l h.0 t + better_earlier ls h.1 t
+  -- where each price tells alike whether its fills are earlier, all fills count or none
+  read_priced : (b : Bool) (Q : ℕ → Type 0) → ((q : ℕ) (c : Bool) → Q q → (is_better (other_side sc.side) q p || (eqb q p && c)) ≡ b) → (ls : List Line) → AllByRecursion (Priced Q) ls → total (earlier sc p k) ls ≡ cond b (total traded_in ls) 0
+  read_priced b Q test [] h = sym (cond_none b)
+  read_priced b Q test (l ∷ ls) h = (λ t. one l h.0 t + read_priced b Q test ls h.1 t) ∙ sym (cond_plus b (traded_in l) (total traded_in ls))
     where
-      one : (l : Line) → Priced (λ q. is_better (other_side sc.side) q p ≡ true) l → earlier sc p k l ≡ traded_in l
-      one (Fill id firm size price step) b = ap (λ c. cond c size 0) (better_test (other_side sc.side) price p (ltb (step_number step) k) b)
-      one (Cancel id firm size cause) b = refl
-      one (Filled id firm) b = refl
-      one (Rest id firm size price) b = refl
-      one (Route id firm size) b = refl
+      one : (l : Line) → Priced Q l → earlier sc p k l ≡ cond b (traded_in l) 0
+      one (Fill id firm size price step) h = ap (λ c. cond c size 0) (test price (ltb (step_number step) k) h)
+      one (Cancel id firm size cause) h = sym (cond_none b)
+      one (Filled id firm) h = sym (cond_none b)
+      one (Rest id firm size price) h = sym (cond_none b)
+      one (Route id firm size) h = sym (cond_none b)
 
-  -- and those at a worse price are not
+  -- fills at a better price are all earlier, and those at a worse price are not
+  pub better_earlier : (ls : List Line) → AllByRecursion (Priced (λ q. is_better (other_side sc.side) q p ≡ true)) ls → total (earlier sc p k) ls ≡ total traded_in ls
+  better_earlier = read_priced true (λ q. is_better (other_side sc.side) q p ≡ true) (λ q c. better_test (other_side sc.side) q p c)
+
   pub worse_later : (ls : List Line) → AllByRecursion (Priced (λ q. is_better (other_side sc.side) p q ≡ true)) ls → total (earlier sc p k) ls ≡ 0
-  worse_later [] h = refl
-  worse_later (l ∷ ls) h = (λ t. one l h.0 t + worse_later ls h.1 t)
-    where
-      one : (l : Line) → Priced (λ q. is_better (other_side sc.side) p q ≡ true) l → earlier sc p k l ≡ 0
-      one (Fill id firm size price step) b = ap (λ c. cond c size 0) (worse_test (other_side sc.side) price p (ltb (step_number step) k) b)
-      one (Cancel id firm size cause) b = refl
-      one (Filled id firm) b = refl
-      one (Rest id firm size price) b = refl
-      one (Route id firm size) b = refl
+  worse_later = read_priced false (λ q. is_better (other_side sc.side) p q ≡ true) (λ q c. worse_test (other_side sc.side) q p c)
 
   pub earlier_fills : (j : Step) (ns : List ℕ) (cs : List Entry) → length ns ≡ length cs → AllByRecursion (λ e. e.price ≡ p) cs → total (earlier sc p k) (fills j ns cs) ≡ cond (ltb (step_number j) k) (total (λ n. n) ns) 0
   earlier_fills j ns cs long level =
@@ -106,29 +86,18 @@ module _ (sc : Scene) (p k : ℕ) where
       (All-weaker (λ e. e.price ≡ p) (λ e. (n : ℕ) → earlier sc p k (Fill e.id e.firm n e.price j) ≡ cond (ltb (step_number j) k) n 0)
       (λ e same n. ap (λ c. cond c n 0) (level_test (other_side sc.side) e.price p (ltb (step_number j) k) same)) cs level)
 
-pub traded_fills : (j : Step) (ns : List ℕ) (cs : List Entry) → length ns ≡ length cs → total traded_in (fills j ns cs) ≡ total (λ n. n) ns
-traded_fills j ns cs long = read_fills traded_in true j ns cs long (each cs)
-  where
-    each : (cs : List Entry) → AllByRecursion (λ e. (n : ℕ) → n ≡ n) cs
-    each [] = tt
-    each (e ∷ cs) = (λ n. refl, each cs)
-
-pub traded_barred : (cs : List Entry) → total traded_in (map barred_line cs) ≡ 0
-traded_barred [] = refl
-traded_barred (e ∷ cs) = omega (arith, traded_barred cs)
-
 -- each entry of a round gets its number at least
 pub each_gets : (k : Step) (tape : List Line) (ns : List ℕ) (cs : List Entry) → length ns ≡ length cs → ((i : ℕ) → total (got i) (fills k ns cs) ≤ total (got i) tape) → AllZip ◌≤◌ ns (map (λ e. total (got e.id) tape) cs)
 each_gets k tape [] [] long part = tt
 each_gets k tape [] (e ∷ cs) long part = absurd (omega arith)
 each_gets k tape (n ∷ ns) [] long part = absurd (omega arith)
 each_gets k tape (n ∷ ns) (e ∷ cs) long part = (
-  cond_both (ltb 0 n) (Fill e.id e.firm n e.price k ∷ fills k ns cs) (fills k ns cs) (λ l. ((i : ℕ) → total (got i) l ≤ total (got i) tape) → n ≤ total (got e.id) tape)
+  cond_both (ltb 0 n) _ _ (λ l. ((i : ℕ) → total (got i) l ≤ total (got i) tape) → n ≤ total (got e.id) tape)
       (λ _ h. let own = cond-true (eqb e.id e.id) n 0 (eq-eqb e.id e.id refl) in omega (arith, h e.id, own))
       (λ small _. omega (arith, ltb-false 0 n small))
       part,
   each_gets k tape ns cs (omega arith) (λ i.
-      cond_both (ltb 0 n) (Fill e.id e.firm n e.price k ∷ fills k ns cs) (fills k ns cs) (λ l. total (got i) l ≤ total (got i) tape → total (got i) (fills k ns cs) ≤ total (got i) tape)
+      cond_both (ltb 0 n) _ _ (λ l. total (got i) l ≤ total (got i) tape → total (got i) (fills k ns cs) ≤ total (got i) tape)
       (λ _ h. omega arith) (λ _ h. h) (part i)),
 )
 

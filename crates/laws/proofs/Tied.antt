@@ -1,11 +1,10 @@
 -- What ties the records to the book, and what follows of the entries that stand. Assumes nothing.
-use Rattle.std.proofs.Common.{◌≡◌, ℕ, ◌+◌, ◌<◌, ◌≤◌, true, false, cond, eqb, ◌⊎◌, List, [], ◌∷◌, Some, None, unwrap_or, sym, refl, ap, ◌∙◌, subst, inl, inr, ⊎_elim, arith}
+use Rattle.std.proofs.Common.{◌≡◌, ℕ, ◌+◌, ◌<◌, ◌≤◌, eqb, ◌⊎◌, List, [], ◌∷◌, Some, None, sym, ap, ◌∙◌, subst, inl, inr, ⊎_elim, arith}
 use Rattle.std.specs.List.{AllByRecursion}
-use Rattle.std.proofs.ByRecursion.{All-weaker}
-use Rattle.std.proofs.lemmas.Bool.{cases_Bool, cases_lt, eqb-true, eq-eqb, ne_eqb}
-use Rattle.std.proofs.lemmas.Bool.Decides.{nat_tests}
+use Rattle.std.proofs.lemmas.Option.{same_Some}
+use Rattle.std.proofs.lemmas.Bool.{cases_Bool, cases_lt, eqb-true}
 use Rattle.ranked.specs.Ranked.{ahead}
-use Rattle.ranked.proofs.Orderly.{Orderly}
+use Rattle.ranked.proofs.Orderly.{Orderly, orderly}
 use Rattle.ranked.proofs.Strict.{Strict, strict_same}
 use Rattle.sharing.specs.Totals.{one_if, count}
 use Rattle.rules.specs.declared.terms.Entry.{Entry}
@@ -20,16 +19,17 @@ use Rattle.rules.specs.Ranks.{rank_of, rank_before}
 use Rattle.rules.specs.Sides.{other_side}
 use Rattle.rules.specs.Sound.{InRank, GoodEntry, Sound}
 use Rattle.rules.proofs.CallsKeep.{side_once}
-use Rattle.rules.proofs.InRank.{rank_transitive}
+use Rattle.rules.specs.contracts.ranks.SideRankingEntry.TheImpl.Laws.{irreflexive-law, transitive-law, total-law}
 use Rattle.rules.proofs.Moves.{good_side}
-use Rattle.laws.specs.Accounts.{holds, account}
+use Rattle.laws.specs.Accounts.{Account, holds, account}
 use Rattle.laws.specs.Balanced.{resting}
 use Rattle.laws.specs.Facts.{Arrived, arrived, resting_price, clock, working_time, away_price}
 use Rattle.laws.specs.Histories.{Told}
+use Rattle.laws.specs.Priority.{Among}
 use Rattle.laws.specs.Standing.{Known, Stands, Standing, national_told}
 use Rattle.laws.proofs.Booked.{out_with}
-use Rattle.laws.proofs.ById.{none_held}
-use Rattle.laws.proofs.Lists.{all_and}
+use Rattle.laws.proofs.ById.{none_held, all_among, counted, own_holding}
+use Rattle.laws.proofs.Lists.{all_and, all_both}
 
 -- an order at its entry or out on a route is the one that the records tell of, with its cap
 pub record Comes (tick : ℕ) (rs : List Told) (o : Routed) : Type 0 where
@@ -46,48 +46,34 @@ pub record Comes (tick : ℕ) (rs : List Told) (o : Routed) : Type 0 where
   pub listed : Standing (other_side came.order.side) came.before stood
   pub cap : cap_of came.order tick (national_told (other_side came.order.side) came.before stood) ≡ Some o.cap
 
+-- an account that balances with what rests
+abbrev pub Balances : Account → ℕ → Type 0
+Balances a rest = a.entered + a.added ≡ ((((a.traded_here + a.traded_away) + a.cancelled) + a.taken_off) + rest) + a.out
+
+-- of an id nothing is told
+abbrev pub Untold : List Told → ℕ → Type 0
+Untold rs i = (arrived i rs ≡ None) × ((account i rs).entered ≡ 0) × ((account i rs).added ≡ 0)
+
 pub record Tied (c : Opening) (rs : List Told) (m : Model) : Type 0 where
   pub sound : Sound m
   pub opened : m.opening ≡ c
-  pub balances : (i : ℕ) → let a = account i rs in a.entered + a.added ≡ ((((a.traded_here + a.traded_away) + a.cancelled) + a.taken_off) + resting i m) + a.out
+  pub balances : (i : ℕ) → Balances (account i rs) (resting i m)
   pub sent : (i : ℕ) → (account i rs).out ≡ out_with i m.out
   pub clock : clock rs ≡ m.counters.last_time
   pub known : (s : Side) → AllByRecursion (Known s rs) (entries s m)
   pub rows : AllByRecursion (Comes c.tick rs) m.out
   pub away : (s : Side) → away_price s rs ≡ away s m
   -- of an id above all that were accepted nothing is told
-  pub fresh : (i : ℕ) → m.counters.last_id < i → (arrived i rs ≡ None) × ((account i rs).entered ≡ 0) × ((account i rs).added ≡ 0)
+  pub fresh : (i : ℕ) → m.counters.last_id < i → Untold rs i
 
 -- an order holds what it has in the book
 pub holds_resting : (c : Opening) (rs : List Told) (m : Model) → Tied c rs m → (i : ℕ) → holds (account i rs) ≡ resting i m
 holds_resting c rs m tied i = omega (arith, tied.balances i)
 
--- an entry holds its own size where no other has its id
-pub held_alone : (es : List Entry) → ((i : ℕ) → count (λ e. eqb e.id i) es ≤ 1) → AllByRecursion (λ e. holding e.id es ≡ e.size) es
-held_alone [] once = tt
-held_alone (e ∷ es) once =
-    let mine = eq-eqb e.id e.id refl in
-    let others : count (λ f. eqb f.id e.id) es ≡ 0 = let one = ap one_if mine in omega (arith, once e.id) in (
-      (let here = ap (λ b. cond b e.size 0) mine in omega (arith, none_held e.id es others)),
-      rest es others (held_alone es (λ i. omega (arith, once i))),
-    )
-  where
-    rest : (fs : List Entry) → count (λ f. eqb f.id e.id) fs ≡ 0 → AllByRecursion (λ f. holding f.id es ≡ f.size) fs → AllByRecursion (λ f. holding f.id (e ∷ es) ≡ f.size) fs
-    rest [] none held = tt
-    rest (f ∷ fs) none held =
-        let differ : eqb e.id f.id ≡ false = ne_eqb e.id f.id (λ same. let one = ap one_if (eq-eqb f.id e.id (sym same)) in absurd (omega arith)) in
-        (let zero = ap (λ b. cond b e.size 0) differ in omega (arith, held.0), rest fs (omega arith) held.1)
-
 -- what one side has, the other has not
 pub apart_sides : (s : Side) (m : Model) → Sound m → (i : ℕ) → 1 ≤ count (λ e. eqb e.id i) (entries s m) → resting i m ≡ holding i (entries s m)
 apart_sides Buy m sound i one = omega (arith, none_held i m.offers (omega (arith, sound.unique i)))
 apart_sides Sell m sound i one = omega (arith, none_held i m.bids (omega (arith, sound.unique i)))
-
-counted_there : (es : List Entry) → AllByRecursion (λ e. 1 ≤ count (λ f. eqb f.id e.id) es) es
-counted_there [] = tt
-counted_there (e ∷ es) =
-    let one = ap one_if (eq-eqb e.id e.id refl) in
-    (omega arith, All-weaker (λ f. 1 ≤ count (λ g. eqb g.id f.id) es) (λ f. 1 ≤ count (λ g. eqb g.id f.id) (e ∷ es)) (λ f h. omega arith) es (counted_there es))
 
 -- an id that holds contracts is on the list
 held_counted : (i : ℕ) (es : List Entry) → 1 ≤ holding i es → 1 ≤ count (λ e. eqb e.id i) es
@@ -102,12 +88,9 @@ picked Q i (e ∷ es) one qs use_it =
     (λ else. let zero = ap one_if else in picked Q i es (omega arith) qs.1 use_it)
     (cases_Bool (eqb e.id i))
 
-pub some_same : {X : Type 0} {x y : X} → Some x ≡ Some y → x ≡ y
-some_same {x = x} same = ap (λ o. unwrap_or o x) same
-
 -- an entry of a side is of an order of that side
 side_known : (t : Side) (rs : List Told) (i : ℕ) (a : Arrived) → arrived i rs ≡ Some a → (es : List Entry) → AllByRecursion (Known t rs) es → 1 ≤ count (λ e. eqb e.id i) es → a.order.side ≡ t
-side_known t rs i a found es known there = picked (Known t rs) i es there known (λ e same k. ap (λ (x : Arrived). x.order.side) (some_same (sym found ∙ ap (λ j. arrived j rs) (sym same) ∙ k.found)) ∙ k.side)
+side_known t rs i a found es known there = picked (Known t rs) i es there known (λ e same k. ap (λ (x : Arrived). x.order.side) (same_Some _ _ (sym found ∙ ap (λ j. arrived j rs) (sym same) ∙ k.found)) ∙ k.side)
 
 side_split : (i : ℕ) (m : Model) → 1 ≤ resting i m → (1 ≤ holding i m.bids) ⊎ (1 ≤ holding i m.offers)
 side_split i m some = ⊎_elim (λ more. inl (omega arith)) (λ none. inr (omega arith)) (cases_lt 0 (holding i m.bids))
@@ -117,15 +100,15 @@ pub standing_book : (s : Side) (c : Opening) (rs : List Told) (m : Model) → Ti
 standing_book s c rs m tied =
     let es = entries s m in
     let good = good_side s m tied.sound in
-    let Q : Entry → Type 0 = λ e. (Known s rs e × GoodEntry m.opening.tick m.counters e) × ((holding e.id es ≡ e.size) × (1 ≤ count (λ f. eqb f.id e.id) es)) in
     record {
       ranked = good.ranked;
-      standing = All-weaker Q (Stands s rs)
-          (λ e h. record { known = h.0.0; size = holds_resting c rs m tied e.id ∙ apart_sides s m tied.sound e.id h.1.1 ∙ h.1.0; some = h.0.1.some })
-          es
-          (all_and (λ e. Known s rs e × GoodEntry m.opening.tick m.counters e) (λ e. (holding e.id es ≡ e.size) × (1 ≤ count (λ f. eqb f.id e.id) es)) es
-          (all_and (Known s rs) (GoodEntry m.opening.tick m.counters) es (tied.known s) good.good)
-          (all_and (λ e. holding e.id es ≡ e.size) (λ e. 1 ≤ count (λ f. eqb f.id e.id) es) es (held_alone es (side_once s m tied.sound)) (counted_there es)));
+      standing = all_both (λ e. Known s rs e × GoodEntry m.opening.tick m.counters e) (λ e. Among e es) (Stands s rs)
+          (λ e h among. record {
+            known = h.0;
+            size = holds_resting c rs m tied e.id ∙ apart_sides s m tied.sound e.id (counted e es among) ∙ own_holding e es among (side_once s m tied.sound e.id);
+            some = h.1.some;
+          })
+          es (all_and (Known s rs) (GoodEntry m.opening.tick m.counters) es (tied.known s) good.good) (all_among es);
       whole = λ i a found side some.
           ⊎_elim
           (λ bid. there Buy i a found side (held_counted i m.bids bid))
@@ -141,30 +124,19 @@ same_entry : (s : Side) (rs : List Told) (e f : Entry) → Stands s rs e → Sta
 same_entry s rs e f x y same =
     let k = x.known in
     let l = y.known in
-    let order : k.came ≡ l.came = some_same (sym k.found ∙ ap (λ j. arrived j rs) same ∙ l.found) in
+    let order : k.came ≡ l.came = same_Some _ _ (sym k.found ∙ ap (λ j. arrived j rs) same ∙ l.found) in
     let firm : e.firm ≡ f.firm = sym k.firm ∙ ap (λ (a : Arrived). a.order.firm) order ∙ l.firm in
     let kind : e.kind ≡ f.kind = sym k.kind ∙ ap (λ (a : Arrived). a.order.kind) order ∙ l.kind in
     let market : e.market ≡ f.market = sym k.market ∙ ap (λ (a : Arrived). unpriced a.order) order ∙ l.market in
     let mark : e.own_firm_mark ≡ f.own_firm_mark = sym k.mark ∙ ap (λ (a : Arrived). a.order.own_firm_mark) order ∙ l.mark in
-    let price : e.price ≡ f.price = some_same (sym k.price ∙ ap (λ j. resting_price j rs) same ∙ l.price) in
+    let price : e.price ≡ f.price = same_Some _ _ (sym k.price ∙ ap (λ j. resting_price j rs) same ∙ l.price) in
     let time : e.time ≡ f.time = sym k.time ∙ ap (λ j. working_time j rs) same ∙ l.time in
     let size : e.size ≡ f.size = sym x.size ∙ ap (λ j. holds (account j rs)) same ∙ y.size in
     λ t. record { id = same t; firm = firm t; kind = kind t; market = market t; price = price t; size = size t; time = time t; own_firm_mark = mark t }
 
-rank_irreflexive : (s : Side) (r : ℕ × ℕ × ℕ) → rank_before s r r ≡ false
-rank_irreflexive Buy r = grind (arith, nat_tests)
-rank_irreflexive Sell r = grind (arith, nat_tests)
-
-rank_follows : (s : Side) (r t u : ℕ × ℕ × ℕ) → rank_before s r u ≡ true → rank_before s t u ≡ false → rank_before s r t ≡ true
-rank_follows Buy r t u p q = grind (arith, nat_tests)
-rank_follows Sell r t u p q = grind (arith, nat_tests)
-
+-- the laws of the ranking that a side is
 entries_orderly : (s : Side) → Orderly (ahead rank_before (λ _. rank_of) s)
-entries_orderly s = record {
-  irreflexive = λ e. rank_irreflexive s (rank_of e);
-  transitive = λ e f g. rank_transitive s (rank_of e) (rank_of f) (rank_of g);
-  follows = λ e f g. rank_follows s (rank_of e) (rank_of f) (rank_of g);
-}
+entries_orderly s = orderly rank_before (λ _. rank_of) s (irreflexive-law s) (transitive-law s) (total-law s)
 
 strictly : (s : Side) (es : List Entry) → InRank s es → Strict (ahead rank_before (λ _. rank_of) s) es
 strictly s [] ranked = tt

@@ -21,17 +21,17 @@ use Rattle.rules.specs.Trade.{Ending, end_line}
 use Rattle.rules.specs.Walk.{flat, runs, walk}
 use Rattle.rules.proofs.AllPrices.{all_prices}
 use Rattle.rules.proofs.Leaves.{runs_are_whole}
+use Rattle.rules.proofs.Held.{Sized}
 use Rattle.laws.specs.Accounts.{got}
 use Rattle.laws.specs.Makers.{Served, GuaranteeAndFloors}
 use Rattle.laws.specs.Priority.{Among, FairLine, PriorityAndPrice}
 use Rattle.laws.specs.Scenes.{Scene, within_reach, least_available, may_come}
-use Rattle.laws.proofs.Bounds.{got_taken, own_holding, alone, walk_once, end_plain, end_got, end_names}
-use Rattle.laws.proofs.ById.{others_differ}
+use Rattle.laws.proofs.Bounds.{got_taken, alone, walk_once, end_plain, end_got, end_names}
+use Rattle.laws.proofs.ById.{all_among, own_holding, others_differ}
 use Rattle.laws.proofs.Fairness.{no_fill}
 use Rattle.laws.proofs.Lists.{all_both}
-use Rattle.laws.proofs.BetterFirst.{BetterFirst, runs_better_first, tradable_runs}
+use Rattle.laws.proofs.BetterFirst.{BetterFirst, runs_better_first}
 use Rattle.laws.proofs.Tapes.{each_append}
-use Rattle.laws.proofs.Turns.{all_among}
 use Rattle.laws.proofs.Walks.{Goes, walk_goes}
 
 -- the scene of an order at its entry or return
@@ -45,8 +45,9 @@ tape_for rule o away es balance end = (walk rule o (national (other_side o.side)
 -- the other side as it stands
 pub record ReadySide (s : Side) (es : List Entry) : Type 0 where
   pub ranked : InRank s es
-  pub sized : AllByRecursion (λ e. (1 ≤ e.size) × (e.size ≤ 99999)) es
+  pub sized : AllByRecursion Sized es
   pub few : length es ≤ 256
+  pub tradable : (b : ℕ) → b < 100000 → AllByRecursion (Tradable b) (runs es)
   pub unique : (i : ℕ) → count (λ e. eqb e.id i) es ≤ 1
 
 module _ (rule : Sharing) (lawful : Lawful rule) (o : Routed) (least : ℕ) (away : Option ℕ) (es : List Entry)
@@ -54,61 +55,63 @@ module _ (rule : Sharing) (lawful : Lawful rule) (o : Routed) (least : ℕ) (awa
   in_order : BetterFirst (other_side o.side) (runs es)
   in_order = runs_better_first (other_side o.side) es ready.ranked
 
-  tradable : AllByRecursion (Tradable o.size) (runs es)
-  tradable =
-      let is = sym (runs_are_whole es) in
-      tradable_runs (other_side o.side) o.size small (runs es) in_order (subst (InRank (other_side o.side)) is ready.ranked) (subst (AllByRecursion (λ e. (1 ≤ e.size) × (e.size ≤ 99999))) is ready.sized) (subst (λ l. length l ≤ 256) is ready.few)
+  -- the scenes of the order: it trades, or its least size is missed
+  abbrev scene : ℕ → Ending → Scene
+  scene balance end = scene_for rule o least away es (tape_for rule o away es balance end)
+
+  abbrev missed_scene : ℕ → Cause → Scene
+  missed_scene size cause = scene_for rule o least away es (Cancel o.id o.firm size cause ∷ [])
 
   -- the lines of the prices
   abbrev lines : List Line
   lines = (walk rule o (national (other_side o.side) (best es) away) away o.size (runs es)).lines
 
-  goes : (balance : ℕ) (end : Ending) → Goes rule lawful o least away es (tape_for rule o away es balance end) small ready.ranked ready.sized ready.few [] lines (flat (runs es))
+  goes : (balance : ℕ) (end : Ending) → Goes rule lawful o least away es (scene balance end).tape small ready.ranked ready.sized ready.few [] lines (flat (runs es))
   goes balance end =
-      walk_goes rule lawful o least away es (tape_for rule o away es balance end) small ready.ranked ready.sized ready.few (runs es) o.size [] [] (end_line o balance end ∷ [])
-      in_order tradable (sym (runs_are_whole es)) tt refl (omega arith) tt (end_plain o balance end, tt) (λ _. tt)
+      walk_goes rule lawful o least away es (scene balance end).tape small ready.ranked ready.sized ready.few (runs es) o.size [] [] (end_line o balance end ∷ [])
+      in_order (ready.tradable o.size small) (sym (runs_are_whole es)) tt refl (omega arith) tt (end_plain o balance end, tt) (λ _. tt)
 
-  pub trade_priority : (balance : ℕ) (end : Ending) → PriorityAndPrice (scene_for rule o least away es (tape_for rule o away es balance end))
+  pub trade_priority : (balance : ℕ) (end : Ending) → PriorityAndPrice (scene balance end)
   trade_priority balance end =
-      let sc = scene_for rule o least away es (tape_for rule o away es balance end) in
+      let sc = scene balance end in
       each_append (FairLine sc) [] lines (end_line o balance end ∷ []) (goes balance end).fair (no_fill sc lines (end_line o balance end ∷ []) (end_plain o balance end, tt))
 
   -- no entry gives more than it holds
-  held : (balance : ℕ) (end : Ending) (e : Entry) → Among e es → total (got e.id) (tape_for rule o away es balance end) ≤ e.size
+  held : (balance : ℕ) (end : Ending) (e : Entry) → Among e es → total (got e.id) (scene balance end).tape ≤ e.size
   held balance end e among =
-      let accounts = (all_prices rule lawful o (national (other_side o.side) (best es) away) away o.size (runs es) tradable).accounts e.id in
+      let accounts = (all_prices rule lawful o (national (other_side o.side) (best es) away) away o.size (runs es) (ready.tradable o.size small)).accounts e.id in
       let whole = ap (holding e.id) (runs_are_whole es) in
       omega (arith, total_append (got e.id) lines (end_line o balance end ∷ []), end_got e.id o balance end, got_taken e.id lines, accounts, whole, own_holding e es among (ready.unique e.id))
 
-  unnamed : (balance : ℕ) (end : Ending) (e : Entry) → Among e es → eqb o.id e.id ≡ false → in_reach o.side o.cap away e.price ≡ false → count (names e.id) (tape_for rule o away es balance end) ≡ 0
+  unnamed : (balance : ℕ) (end : Ending) (e : Entry) → Among e es → eqb o.id e.id ≡ false → in_reach o.side o.cap away e.price ≡ false → count (names e.id) (scene balance end).tape ≡ 0
   unnamed balance end e among other out =
       let q = λ (f : Entry). in_reach o.side o.cap away f.price in
       let once = walk_once rule o (national (other_side o.side) (best es) away) away e.id (other_side o.side) o.size (runs es) in_order in
       let whole = ap (count (λ f. q f && eqb f.id e.id)) (runs_are_whole es) in
       omega (arith, total_append (λ l. one_if (names e.id l)) lines (end_line o balance end ∷ []), ap one_if (end_names e.id o balance end other), once, whole, alone q e es among out (ready.unique e.id))
 
-  pub trade_makers : (balance : ℕ) (end : Ending) → least_available (scene_for rule o least away es (tape_for rule o away es balance end)) ≡ true → GuaranteeAndFloors (scene_for rule o least away es (tape_for rule o away es balance end))
+  pub trade_makers : (balance : ℕ) (end : Ending) → least_available (scene balance end) ≡ true → GuaranteeAndFloors (scene balance end)
   trade_makers balance end available =
-      let sc = scene_for rule o least away es (tape_for rule o away es balance end) in
+      let sc = scene balance end in
       record {
         served = subst (AllByRecursion (λ e. may_come sc e.price ≡ true → Served sc e.price)) (runs_are_whole es)
             (All-weaker (λ e. within_reach sc e.price ≡ true → Served sc e.price) (λ e. may_come sc e.price ≡ true → Served sc e.price) (λ e h able. h (and_parts (within_reach sc e.price) (least_available sc) able).0) (flat (runs es)) (goes balance end).served);
-        within = All-weaker (λ e. Among e es) (λ e. total (got e.id) (tape_for rule o away es balance end) ≤ e.size) (held balance end) es (all_among es);
-        apart = all_both (λ e. Among e es) (λ e. eqb o.id e.id ≡ false) (λ e. may_come sc e.price ≡ false → count (names e.id) (tape_for rule o away es balance end) ≡ 0)
+        within = All-weaker (λ e. Among e es) (λ e. total (got e.id) (scene balance end).tape ≤ e.size) (held balance end) es (all_among es);
+        apart = all_both (λ e. Among e es) (λ e. eqb o.id e.id ≡ false) (λ e. may_come sc e.price ≡ false → count (names e.id) (scene balance end).tape ≡ 0)
             (λ e among other out. ⊎_elim (unnamed balance end e among other) (λ missed. absurd (both_ways (least_available sc) missed available)) (and_cases (within_reach sc e.price) (least_available sc) out))
             es (all_among es) (others_differ (λ (x : Entry). x.id) o.id es fresh);
       }
 
   -- an order whose least size is missed is cancelled whole
-  pub missed_priority : (size : ℕ) (cause : Cause) → PriorityAndPrice (scene_for rule o least away es (Cancel o.id o.firm size cause ∷ []))
+  pub missed_priority : (size : ℕ) (cause : Cause) → PriorityAndPrice (missed_scene size cause)
   missed_priority size cause = (tt, tt)
 
-  pub missed_makers : (size : ℕ) (cause : Cause) → least_available (scene_for rule o least away es (Cancel o.id o.firm size cause ∷ [])) ≡ false → GuaranteeAndFloors (scene_for rule o least away es (Cancel o.id o.firm size cause ∷ []))
+  pub missed_makers : (size : ℕ) (cause : Cause) → least_available (missed_scene size cause) ≡ false → GuaranteeAndFloors (missed_scene size cause)
   missed_makers size cause missed =
-      let sc = scene_for rule o least away es (Cancel o.id o.firm size cause ∷ []) in
+      let sc = missed_scene size cause in
       let among = all_among es in
       record {
         served = All-weaker (λ e. Among e es) (λ e. may_come sc e.price ≡ true → Served sc e.price) (λ e _ able. absurd (both_ways (least_available sc) missed (and_parts (within_reach sc e.price) (least_available sc) able).1)) es among;
-        within = All-weaker (λ e. Among e es) (λ e. total (got e.id) (Cancel o.id o.firm size cause ∷ []) ≤ e.size) (λ e _. omega arith) es among;
-        apart = All-weaker (λ e. eqb o.id e.id ≡ false) (λ e. may_come sc e.price ≡ false → count (names e.id) (Cancel o.id o.firm size cause ∷ []) ≡ 0) (λ e other _. ap (λ b. one_if b + 0) other) es (others_differ (λ (x : Entry). x.id) o.id es fresh);
+        within = All-weaker (λ e. Among e es) (λ e. total (got e.id) sc.tape ≤ e.size) (λ e _. omega arith) es among;
+        apart = All-weaker (λ e. eqb o.id e.id ≡ false) (λ e. may_come sc e.price ≡ false → count (names e.id) sc.tape ≡ 0) (λ e other _. ap (λ b. one_if b + 0) other) es (others_differ (λ (x : Entry). x.id) o.id es fresh);
       }

@@ -2,7 +2,8 @@
 use Rattle.std.proofs.Common.{◌≡◌, ℕ, ◌-◌, ◌<◌, ◌≤◌, min, Bool, true, false, cond, ◌&&◌, ◌||◌, eqb, ltb, ◌⊎◌, List, [], ◌∷◌, ◌++◌, map, filter, sym, refl, ap, ◌∙◌, subst, inl, inr, ⊎_elim, arith}
 use Rattle.std.specs.List.{AllByRecursion}
 use Rattle.std.proofs.ByRecursion.{All-weaker}
-use Rattle.std.proofs.lemmas.Bool.{false≢true, and_parts, and_from, or_cases, cond_both, cond-true, eqb-true, eq-eqb, ltb-true, ltb-false}
+use Rattle.std.proofs.lemmas.Bool.Decides.{nat_tests}
+use Rattle.std.proofs.lemmas.Bool.{cases_Bool, false≢true, cond_both, cond-true, eq-eqb, ltb-true, ltb-false}
 use Rattle.sharing.specs.Claims.{Ascending}
 use Rattle.sharing.specs.Rules.{in_turn}
 use Rattle.sharing.specs.Totals.{total}
@@ -19,7 +20,7 @@ use Rattle.rules.specs.Sides.{other_side, is_better}
 use Rattle.laws.specs.Accounts.{got}
 use Rattle.laws.specs.Priority.{Among, goes_by_time, is_ahead, NothingLeft, FairFill, FairLine, EachAfter}
 use Rattle.laws.specs.Scenes.{Scene, is_eligible, step_of}
-use Rattle.laws.proofs.Lists.{all_both}
+use Rattle.laws.proofs.Lists.{all_both, every}
 
 -- what holds of those kept holds of each that passes
 pub kept_back : {X : Type 0} (P : X → Type 0) (test : X → Bool) (xs : List X) → AllByRecursion P (filter test xs) → AllByRecursion (λ x. test x ≡ true → P x) xs
@@ -29,15 +30,6 @@ kept_back P test (x ∷ xs) ps =
       | true ↦ λ h. (λ _. h.0, kept_back P test xs h.1)
       | false ↦ λ h. (λ never. absurd (false≢true never), kept_back P test xs h)
     ] ps
-
-pub all_among : (es : List Entry) → AllByRecursion (λ e. Among e es) es
-all_among [] = tt
-all_among (e ∷ es) = (inl refl, All-weaker (λ f. Among f es) (λ f. Among f (e ∷ es)) (λ f h. inr h) es (all_among es))
-
-pub among_all : (P : Entry → Type 0) (e : Entry) (es : List Entry) → AllByRecursion P es → Among e es → P e
-among_all P e [] ps h = absurd h
-among_all P e (f ∷ fs) ps (inl same) = subst P (sym same) ps.0
-among_all P e (f ∷ fs) ps (inr h) = among_all P e fs ps.1 h
 
 -- more lines take no less
 abbrev pub Part : List Line → List Line → Type 0
@@ -62,23 +54,8 @@ left_more xs ys part e h = omega (arith, h, part e.id)
 ahead_before : (s : Side) (ep fp p ce cf te tf : ℕ) (by_time : Bool) → fp ≡ p → (is_better s ep fp || (eqb ep fp && (ltb ce cf || (eqb ce cf && (by_time && ltb te tf))))) ≡ true →
     ((is_better s ep p || (eqb ep p && ltb ce cf)) ≡ true) ⊎ ((ep ≡ p) × (ce ≡ cf) × (by_time ≡ true) × (te < tf))
 ahead_before s ep fp p ce cf te tf by_time same h =
-    ⊎_elim
-    (λ better. inl (ap (λ b. b || (eqb ep p && ltb ce cf)) (subst (λ q. is_better s ep q ≡ true) same better)))
-    (λ level.
-    let parts = and_parts (eqb ep fp) _ level in
-    let here : ep ≡ p = eqb-true ep fp parts.0 ∙ same in
-    ⊎_elim
-    (λ lower. inl (or_second (is_better s ep p) _ (and_from (eqb ep p) (ltb ce cf) (eq-eqb ep p here) lower)))
-    (λ again.
-    let more = and_parts (eqb ce cf) _ again in
-    let last = and_parts by_time (ltb te tf) more.1 in
-    inr (here, eqb-true ce cf more.0, last.0, ltb-true te tf last.1))
-    (or_cases (ltb ce cf) _ parts.1))
-    (or_cases (is_better s ep fp) _ h)
-  where
-    or_second : (x y : Bool) → y ≡ true → (x || y) ≡ true
-    or_second true y h = refl
-    or_second false y h = h
+    let here = subst (λ q. (is_better s ep q || (eqb ep q && (ltb ce cf || (eqb ce cf && (by_time && ltb te tf))))) ≡ true) same h in
+    ⊎_elim inl (λ out. inr (grind (arith, nat_tests, here, out), grind (arith, nat_tests, here, out), grind (arith, nat_tests, here, out), grind (arith, nat_tests, here, out))) (cases_Bool (is_better s ep p || (eqb ep p && ltb ce cf)))
 
 module _ (sc : Scene) where
   pub fair_more : (xs ys : List Line) → Part xs ys → (id firm n m price : ℕ) (k : Step) → FairFill sc xs id firm n price k → FairFill sc ys id firm m price k
@@ -103,7 +80,7 @@ module _ (sc : Scene) where
   shared_fair k front [] cs h = tt
   shared_fair k front (n ∷ ns) [] h = tt
   shared_fair k front (n ∷ ns) (f ∷ cs) h =
-      cond_both (ltb 0 n) (Fill f.id f.firm n f.price k ∷ fills k ns cs) (fills k ns cs) (EachAfter (FairLine sc) front)
+      cond_both (ltb 0 n) _ _ (EachAfter (FairLine sc) front)
       (λ some.
       let fill = Fill f.id f.firm n f.price k ∷ [] in
       let fair = h (omega (arith, ltb-true 0 n some)) in (
@@ -154,11 +131,7 @@ module _ (sc : Scene) where
     pub round_fair : (k : Step) (c : ℕ) → goes_by_time c ≡ false → (front : List Line) (ns : List ℕ) (cs : List Entry) → AllByRecursion (Claims k c) cs → (1 ≤ total (λ n. n) ns → Passed front c) → EachAfter (FairLine sc) front (fills k ns cs)
     round_fair k c shares front ns cs claims passed =
         shared_fair k front ns cs (λ some. All-weaker (Claims k c) (Fair front k) (λ f at. fair_from front k c f at (passed some)
-        (none sc.standing f)) cs claims)
-      where
-        none : (es : List Entry) (f : Entry) → AllByRecursion (λ e. is_eligible sc e ≡ true → e.price ≡ p → class_of e ≡ c → goes_by_time c ≡ true → e.time < f.time → NothingLeft front e) es
-        none [] f = tt
-        none (e ∷ es) f = (λ able same class goes lt. absurd (false≢true (sym shares ∙ goes)), none es f)
+        (every (λ e. is_eligible sc e ≡ true → e.price ≡ p → class_of e ≡ c → goes_by_time c ≡ true → e.time < f.time → NothingLeft front e) (λ e able same class goes lt. absurd (false≢true (sym shares ∙ goes))) sc.standing)) cs claims)
 
     -- the entries of a class that have something left are still to come
     abbrev pub ToCome : List Line → ℕ → List Entry → Type 0
@@ -170,7 +143,7 @@ module _ (sc : Scene) where
     turn_fair k c amount front (f ∷ cs) up claims passed come =
         let n = min f.size amount in
         let fill = Fill f.id f.firm n f.price k ∷ [] in
-        cond_both (ltb 0 n) (Fill f.id f.firm n f.price k ∷ fills k (in_turn (amount - f.size) (map claim_of cs)) cs) (fills k (in_turn (amount - f.size) (map claim_of cs)) cs) (EachAfter (FairLine sc) front)
+        cond_both (ltb 0 n) _ _ (EachAfter (FairLine sc) front)
         (λ some.
         let positive : 1 ≤ amount = omega (arith, ltb-true 0 n some) in (
           fair_more front front (λ i. omega arith) f.id f.firm 0 n f.price k (fair_from front k c f claims.0 (passed positive)

@@ -1,7 +1,8 @@
 -- A price to which an order came, read from the tape of its call. Assumes nothing.
-use Rattle.std.proofs.Common.{◌≡◌, ℕ, ◌+◌, ◌-◌, ◌*◌, ◌/◌, ◌≤◌, min, max, Bool, true, false, cond, not, ◌&&◌, eqb, ltb, leb, List, ◌++◌, map, length, filter, sym, refl, ap, ◌∙◌, subst, arith}
+use Rattle.std.proofs.Common.{◌≡◌, ℕ, ◌+◌, ◌<◌, ◌≤◌, min, Bool, true, cond, not, ◌&&◌, eqb, ltb, leb, List, ◌++◌, map, length, filter, sym, ap, ◌∙◌, subst, arith}
 use Rattle.std.specs.List.{AllZip, AllByRecursion}
 use Rattle.std.proofs.ByRecursion.{All-weaker, all_kept_by, kept_by_passes}
+use Rattle.std.proofs.lemmas.Bool.Decides.{nat_tests}
 use Rattle.std.proofs.lemmas.Bool.{false≢true, and_parts, eqb-true}
 use Rattle.sharing.specs.Rules.{by_time}
 use Rattle.sharing.specs.Sharing.{Sharing}
@@ -18,11 +19,11 @@ use Rattle.rules.specs.Level.{size_of, claim_of, fills, in_class, in_group}
 use Rattle.rules.specs.Numbers.{step_number}
 use Rattle.rules.specs.Ranks.{is_customer}
 use Rattle.rules.specs.Sides.{other_side, is_better}
-use Rattle.rules.proofs.OnePrice.{group_class}
+use Rattle.rules.proofs.Chain.{beside}
 use Rattle.laws.specs.Accounts.{got}
 use Rattle.laws.specs.Makers.{gets, is_shared, Served}
 use Rattle.laws.specs.Scenes.{Scene, is_free, earlier, free_at, is_national, is_guaranteed, guaranteed_at, balance_at, they_show, all_show, reaches_makers, step_of, claimants, shared_amount}
-use Rattle.laws.proofs.Levels.{fourth, fifth, Five, lines_1, lines_2, lines_3, lines_4, lines_5}
+use Rattle.laws.proofs.Levels.{acting_group, acting_class, fourth, fifth, Five, lines_1, lines_2, lines_3, lines_4, lines_5}
 use Rattle.laws.proofs.Rounds.{kept_same}
 use Rattle.laws.proofs.Shares.{long, each_trans, each_total}
 use Rattle.laws.proofs.Tapes.{Priced, all_priced, better_earlier, worse_later, earlier_fills, each_gets}
@@ -47,59 +48,25 @@ step_by m c x = cond m (cond c CustomerMarketOrders OtherMarketOrders) (cond c C
 abbrev pub class_by : Bool → Bool → ℕ
 class_by m c = cond m (cond c 1 2) (cond c 3 4)
 
-pub test_1 : (m c x : Bool) → eqb (step_number (step_by m c x)) 1 ≡ eqb (class_by m c) 1
-test_1 true true x = refl
-test_1 true false x = refl
-test_1 false true x = refl
-test_1 false false true = refl
-test_1 false false false = refl
-
-pub test_2 : (m c x : Bool) → eqb (step_number (step_by m c x)) 2 ≡ eqb (class_by m c) 2
-test_2 true true x = refl
-test_2 true false x = refl
-test_2 false true x = refl
-test_2 false false true = refl
-test_2 false false false = refl
-
-pub test_3 : (m c x : Bool) → eqb (step_number (step_by m c x)) 3 ≡ eqb (class_by m c) 3
-test_3 true true x = refl
-test_3 true false x = refl
-test_3 false true x = refl
-test_3 false false true = refl
-test_3 false false false = refl
+-- steps 1, 2 and 3 are those of their classes
+pub test_class : (k : ℕ) → k < 4 → (m c x : Bool) → eqb (step_number (step_by m c x)) k ≡ eqb (class_by m c) k
+test_class k front m c x = grind (arith, nat_tests, front)
 
 pub test_4 : (m c x : Bool) → (x ≡ true → eqb (class_by m c) 4 ≡ true) → eqb (step_number (step_by m c x)) 4 ≡ x
-test_4 true true true only = absurd (false≢true (only refl))
-test_4 true true false only = refl
-test_4 true false true only = absurd (false≢true (only refl))
-test_4 true false false only = refl
-test_4 false true true only = absurd (false≢true (only refl))
-test_4 false true false only = refl
-test_4 false false true only = refl
-test_4 false false false only = refl
+test_4 m c x only = grind (arith, nat_tests, only)
 
 pub test_5 : (m c x : Bool) → eqb (step_number (step_by m c x)) 5 ≡ (eqb (class_by m c) 4 && not x)
-test_5 true true x = refl
-test_5 true false x = refl
-test_5 false true x = refl
-test_5 false false true = refl
-test_5 false false false = refl
-
-balances : (u b0 t1 t2 t3 t4 b1 b2 b3 b4 : ℕ) → b1 ≡ b0 - t1 → b2 ≡ b1 - t2 → b3 ≡ b2 - t3 → b4 ≡ b3 - t4 →
-    ((u + b0) - (u + t1) ≡ b1) × ((u + b0) - (u + (t1 + t2)) ≡ b2) × ((u + b0) - (u + ((t1 + t2) + t3)) ≡ b3) × ((u + b0) - (u + (((t1 + t2) + t3) + t4)) ≡ b4)
-balances u b0 t1 t2 t3 t4 b1 b2 b3 b4 p1 p2 p3 p4 = (omega arith, omega arith, omega arith, omega arith)
+test_5 m c x = grind (arith, nat_tests)
 
 -- floors of an amount and entries, told in other words
 floors_as : (rule : Sharing) (f : Entry → ℕ) (a b : ℕ) (cs ds : List Entry) → a ≡ b → cs ≡ ds → AllZip ◌≤◌ (rule.floors b (map claim_of ds)) (map f ds) → AllZip ◌≤◌ (rule.floors a (map claim_of cs)) (map f cs)
 floors_as rule f a b cs ds same alike h = subst (λ n. AllZip ◌≤◌ (rule.floors n (map claim_of cs)) (map f cs)) (sym same) (subst (λ l. AllZip ◌≤◌ (rule.floors b (map claim_of l)) (map f l)) (sym alike) h)
 
-guarantee_met : (t g x e n : ℕ) → n ≡ min (min t (max g x)) e → e ≡ t → min t g ≤ n
-guarantee_met t g x e n h same = omega arith
-
 module _ (sc : Scene) (p b0 : ℕ) (v : Visit sc p b0) where
   pub at_p : AllByRecursion (λ e. e.price ≡ p) (free_at sc p)
   at_p = All-weaker (λ e. (eqb e.price p && is_free sc e) ≡ true) (λ e. e.price ≡ p) (λ e h. eqb-true e.price p (and_parts (eqb e.price p) (is_free sc e) h).0) (free_at sc p) (kept_by_passes (λ e. eqb e.price p && is_free sc e) sc.standing)
 
+  -- the fills of the rounds. Stays: names shared with c1 to c5 of Fairness take as many lines in Levels, and arguments
   abbrev f1 : List Line
   f1 = fills CustomerMarketOrders v.five.n1 (filter (in_class 1) (free_at sc p))
 
@@ -117,14 +84,17 @@ module _ (sc : Scene) (p b0 : ℕ) (v : Visit sc p b0) where
 
   sums : (g : Line → ℕ) → total g sc.tape ≡ (total g v.front + (((((total g v.start + total g f1) + total g f2) + total g f3) + total g f4) + total g f5)) + total g v.back
   sums g =
-      ap (total g) v.tape
-      ∙ total_append g (v.front ++ lines_5 v.five v.start) v.back
-      ∙ ap (λ n. n + total g v.back) (total_append g v.front (lines_5 v.five v.start) ∙ ap (λ n. total g v.front + n)
-      (total_append g (lines_4 v.five v.start) f5 ∙ ap (λ n. n + total g f5)
-      (total_append g (lines_3 v.five v.start) f4 ∙ ap (λ n. n + total g f4)
-      (total_append g (lines_2 v.five v.start) f3 ∙ ap (λ n. n + total g f3)
-      (total_append g (lines_1 v.five v.start) f2 ∙ ap (λ n. n + total g f2)
-      (total_append g v.start f1))))))
+      omega (
+        arith,
+        ap (total g) v.tape,
+        total_append g (v.front ++ lines_5 v.five v.start) v.back,
+        total_append g v.front (lines_5 v.five v.start),
+        total_append g (lines_4 v.five v.start) f5,
+        total_append g (lines_3 v.five v.start) f4,
+        total_append g (lines_2 v.five v.start) f3,
+        total_append g (lines_1 v.five v.start) f2,
+        total_append g v.start f1,
+      )
 
   pub long_1 : length v.five.n1 ≡ length (filter (in_class 1) (free_at sc p))
   long_1 = long by_time b0 (filter (in_class 1) (free_at sc p)) v.five.n1 v.five.s1
@@ -155,43 +125,26 @@ module _ (sc : Scene) (p b0 : ℕ) (v : Visit sc p b0) where
       let e1 = earlier_fills sc p k CustomerMarketOrders v.five.n1 (filter (in_class 1) (free_at sc p)) long_1 (kept_at (in_class 1)) in
       let e2 = earlier_fills sc p k OtherMarketOrders v.five.n2 (filter (in_class 2) (free_at sc p)) long_2 (kept_at (in_class 2)) in
       let e3 = earlier_fills sc p k CustomerLimitOrders v.five.n3 (filter (in_class 3) (free_at sc p)) long_3 (kept_at (in_class 3)) in
-      let e4 = earlier_fills sc p k GuaranteedQuotes v.five.n4 (fourth v.five.a sc.directed (free_at sc p)) long_4 (kept_at (λ e. v.five.a && in_group sc.directed (free_at sc p) e)) in
-      let e5 = earlier_fills sc p k OtherInterest v.five.n5 (fifth v.five.a sc.directed (free_at sc p)) long_5 (kept_at (λ e. in_class 4 e && not (v.five.a && in_group sc.directed (free_at sc p) e))) in
+      let e4 = earlier_fills sc p k GuaranteedQuotes v.five.n4 (fourth v.five.a sc.directed (free_at sc p)) long_4 (kept_at (acting_group v.five.a sc.directed (free_at sc p))) in
+      let e5 = earlier_fills sc p k OtherInterest v.five.n5 (fifth v.five.a sc.directed (free_at sc p)) long_5 (kept_at (beside (acting_group v.five.a sc.directed (free_at sc p)))) in
       let e6 = worse_later sc p k v.back v.worse in
-      sums (earlier sc p k)
-      ∙ (λ t. (e0 t + (((((es t + e1 t) + e2 t) + e3 t) + e4 t) + e5 t)) + e6 t)
-      ∙ tidy (total traded_in v.front) (cond (ltb 1 k) (sum v.five.n1) 0) (cond (ltb 2 k) (sum v.five.n2) 0) (cond (ltb 3 k) (sum v.five.n3) 0) (cond (ltb 4 k) (sum v.five.n4) 0) (cond (ltb 5 k) (sum v.five.n5) 0)
-    where
-      tidy : (u a b c d e : ℕ) → (u + (((((0 + a) + b) + c) + d) + e)) + 0 ≡ u + ((((a + b) + c) + d) + e)
-      tidy u a b c d e = omega arith
-
-  steps : ((total traded_in v.front + b0) - (total traded_in v.front + sum v.five.n1) ≡ v.five.b1) × ((total traded_in v.front + b0) - (total traded_in v.front + (sum v.five.n1 + sum v.five.n2)) ≡ v.five.b2) × ((total traded_in v.front + b0) - (total traded_in v.front + ((sum v.five.n1 + sum v.five.n2) + sum v.five.n3)) ≡ v.five.b3) × ((total traded_in v.front + b0) - (total traded_in v.front + (((sum v.five.n1 + sum v.five.n2) + sum v.five.n3) + sum v.five.n4)) ≡ v.five.b4)
-  steps = balances (total traded_in v.front) b0 (sum v.five.n1) (sum v.five.n2) (sum v.five.n3) (sum v.five.n4) v.five.b1 v.five.b2 v.five.b3 v.five.b4 v.five.p1 v.five.p2 v.five.p3 v.five.p4
+      omega (arith, sums (earlier sc p k), e0, es, e1, e2, e3, e4, e5, e6)
 
   balance_2 : balance_at sc p 2 ≡ v.five.b1
-  balance_2 = (λ t. sym v.brings t - (reading 2 ∙ drop (total traded_in v.front) (sum v.five.n1)) t) ∙ steps.0
-    where
-      drop : (u a : ℕ) → u + ((((a + 0) + 0) + 0) + 0) ≡ u + a
-      drop u a = omega arith
+  balance_2 = omega (arith, reading 2, v.brings, v.five.p1)
 
   balance_4 : balance_at sc p 4 ≡ v.five.b3
-  balance_4 = (λ t. sym v.brings t - (reading 4 ∙ drop (total traded_in v.front) (sum v.five.n1) (sum v.five.n2) (sum v.five.n3)) t) ∙ steps.2
-    where
-      drop : (u a b c : ℕ) → u + ((((a + b) + c) + 0) + 0) ≡ u + ((a + b) + c)
-      drop u a b c = omega arith
+  balance_4 = omega (arith, reading 4, v.brings, v.five.p1, v.five.p2, v.five.p3)
 
   balance_5 : balance_at sc p 5 ≡ v.five.b4
-  balance_5 = (λ t. sym v.brings t - (reading 5 ∙ drop (total traded_in v.front) (sum v.five.n1) (sum v.five.n2) (sum v.five.n3) (sum v.five.n4)) t) ∙ steps.3
-    where
-      drop : (u a b c d : ℕ) → u + ((((a + b) + c) + d) + 0) ≡ u + (((a + b) + c) + d)
-      drop u a b c d = omega arith
+  balance_5 = omega (arith, reading 5, v.brings, v.five.p1, v.five.p2, v.five.p3, v.five.p4)
 
   -- the guarantee acts where a balance reaches the makers
   reached : reaches_makers sc p ≡ v.five.a
   reached = (λ t. is_national sc p && (leb 1 (balance_4 t) && leb 1 (they_show sc p))) ∙ sym v.five.is_a
 
   abbrev marked : Entry → Bool
-  marked e = v.five.a && in_group sc.directed (free_at sc p) e
+  marked = acting_group v.five.a sc.directed (free_at sc p)
 
   marks : (e : Entry) → e.price ≡ p → (reaches_makers sc e.price && is_guaranteed sc e.price e) ≡ marked e
   marks e same = (λ t. reaches_makers sc (same t) && is_guaranteed sc (same t) e) ∙ (λ t. reached t && in_group sc.directed (free_at sc p) e)
@@ -203,19 +156,19 @@ module _ (sc : Scene) (p b0 : ℕ) (v : Visit sc p b0) where
   claimed k q same = kept_same (λ e. eqb (step_number (step_of sc e)) (step_number k)) q (free_at sc p) (All-weaker (λ e. e.price ≡ p) (λ e. eqb (step_number (step_of sc e)) (step_number k) ≡ q e) (λ e h. stepping k e h ∙ same e) (free_at sc p) at_p)
 
   pub claimed_1 : claimants sc p CustomerMarketOrders ≡ filter (in_class 1) (free_at sc p)
-  claimed_1 = claimed CustomerMarketOrders (in_class 1) (λ e. test_1 e.market (is_customer e.kind) (marked e))
+  claimed_1 = claimed CustomerMarketOrders (in_class 1) (λ e. test_class 1 (omega arith) e.market (is_customer e.kind) (marked e))
 
   pub claimed_2 : claimants sc p OtherMarketOrders ≡ filter (in_class 2) (free_at sc p)
-  claimed_2 = claimed OtherMarketOrders (in_class 2) (λ e. test_2 e.market (is_customer e.kind) (marked e))
+  claimed_2 = claimed OtherMarketOrders (in_class 2) (λ e. test_class 2 (omega arith) e.market (is_customer e.kind) (marked e))
 
   pub claimed_3 : claimants sc p CustomerLimitOrders ≡ filter (in_class 3) (free_at sc p)
-  claimed_3 = claimed CustomerLimitOrders (in_class 3) (λ e. test_3 e.market (is_customer e.kind) (marked e))
+  claimed_3 = claimed CustomerLimitOrders (in_class 3) (λ e. test_class 3 (omega arith) e.market (is_customer e.kind) (marked e))
 
   pub claimed_4 : claimants sc p GuaranteedQuotes ≡ fourth v.five.a sc.directed (free_at sc p)
-  claimed_4 = claimed GuaranteedQuotes marked (λ e. test_4 e.market (is_customer e.kind) (marked e) (λ h. group_class sc.directed (free_at sc p) e (and_parts v.five.a (in_group sc.directed (free_at sc p) e) h).1))
+  claimed_4 = claimed GuaranteedQuotes marked (λ e. test_4 e.market (is_customer e.kind) (marked e) (acting_class v.five.a sc.directed (free_at sc p) e))
 
   pub claimed_5 : claimants sc p OtherInterest ≡ fifth v.five.a sc.directed (free_at sc p)
-  claimed_5 = claimed OtherInterest (λ e. in_class 4 e && not (marked e)) (λ e. test_5 e.market (is_customer e.kind) (marked e))
+  claimed_5 = claimed OtherInterest (beside marked) (λ e. test_5 e.market (is_customer e.kind) (marked e))
 
   part_2 : Part f2 sc.tape
   part_2 i = omega (arith, sums (got i))
@@ -233,13 +186,8 @@ module _ (sc : Scene) (p b0 : ℕ) (v : Visit sc p b0) where
   met reaches =
       let acting : v.five.a ≡ true = sym reached ∙ reaches in
       let same : fourth v.five.a sc.directed (free_at sc p) ≡ guaranteed_at sc p = ap (λ b. fourth b sc.directed (free_at sc p)) acting in
-      let least = guarantee_met (they_show sc p) (guaranteed v.five.b3) (v.five.b3 * they_show sc p / all_show sc p) (total size_of (fourth v.five.a sc.directed (free_at sc p))) (sum v.five.n4) v.five.s4.adds_up (ap (total size_of) same) in
       let all = each_total v.five.n4 (map (gets sc) (fourth v.five.a sc.directed (free_at sc p))) gets_4 in
-      chain (min (they_show sc p) (guaranteed (balance_at sc p 4))) (min (they_show sc p) (guaranteed v.five.b3)) (sum v.five.n4) (total (λ n. n) (map (gets sc) (fourth v.five.a sc.directed (free_at sc p)))) (total (gets sc) (guaranteed_at sc p))
-      (ap (λ b. min (they_show sc p) (guaranteed b)) balance_4) least all (total_map (gets sc) (λ n. n) (fourth v.five.a sc.directed (free_at sc p)) ∙ ap (total (gets sc)) same)
-    where
-      chain : (x y n z w : ℕ) → x ≡ y → y ≤ n → n ≤ z → z ≡ w → x ≤ w
-      chain x y n z w h i j k = omega arith
+      omega (arith, ap (λ b. min (they_show sc p) (guaranteed b)) balance_4, v.five.s4.adds_up, ap (total size_of) same, all, total_map (gets sc) (λ n. n) (fourth v.five.a sc.directed (free_at sc p)), ap (total (gets sc)) same)
 
   floored : (k : Step) → is_shared k ≡ true → AllZip ◌≤◌ (sc.rule.floors (shared_amount sc p k) (map claim_of (claimants sc p k))) (map (gets sc) (claimants sc p k))
   floored CustomerMarketOrders never = absurd (false≢true never)

@@ -1,5 +1,5 @@
 -- Barred entries go, one after another. Assumes nothing.
-use Rattle.std.proofs.Common.{◌≡◌, ℕ, ◌+◌, ◌<◌, ◌≤◌, Bool, true, false, not, List, [], ◌∷◌, ◌++◌, map, length, get_or, take, drop, set, filter, sym, refl, ap, ◌∙◌, subst, arith}
+use Rattle.std.proofs.Common.{◌≡◌, ℕ, ◌+◌, ◌<◌, ◌≤◌, Bool, true, false, not, List, [], ◌∷◌, ◌++◌, map, length, get_or, take, drop, set, filter, sym, refl, ap, ◌∙◌, arith}
 use Rattle.std.specs.List.{AllByRecursion}
 use Rattle.std.proofs.lemmas.List.Elements.{filter-append}
 use Rattle.std.proofs.ByRecursion.{All-get_or}
@@ -13,7 +13,7 @@ use Rattle.matching.specs.declared.lent.Lent.{Lent}
 use Rattle.matching.specs.Parts.{is_live, live}
 use Rattle.matching.specs.Tapes.{Writes}
 use Rattle.matching.proofs.Gathered.{kept_one, kept_other}
-use Rattle.matching.proofs.Runs.{no_entry}
+use Rattle.rules.proofs.Defaults.{no_entry}
 use Rattle.matching.proofs.Written.{writes_twice, length_after}
 
 -- after i entries: those left, the rest as it was, and the lines
@@ -54,7 +54,7 @@ module _ {barred : Entry → Bool} {run0 run : List Entry} {lent0 lent : Lent} {
       record {
         left = kept_one is_live run i no_entry within alive ∙ (λ t. state.left t ++ same t ∷ []) ∙ sym (kept_one (λ e. not (barred e)) run0 i no_entry inside (ap not here));
         rest = rest_more;
-        writes = subst (λ l. Writes (map barred_line l) lent0 lent) (sym (kept_other barred run0 i no_entry inside here)) state.writes;
+        writes = rw (kept_other barred run0 i no_entry inside here) state.writes;
       }
 
   -- a barred one goes
@@ -67,5 +67,5 @@ module _ {barred : Entry → Bool} {run0 run : List Entry} {lent0 lent : Lent} {
       record {
         left = ap live (take_more_set run i gone within) ∙ filter-append is_live (take i run) (gone ∷ []) ∙ append-nil (live (take i run)) ∙ state.left ∙ sym (kept_other (λ e. not (barred e)) run0 i no_entry inside (ap not here));
         rest = drop-set-lt (i + 1) run i gone (omega arith) ∙ rest_more;
-        writes = subst (λ l. Writes l lent0 lent') lines (writes_twice state.writes writes (omega (arith, few, length-append written_so_far (barred_line e ∷ []))));
+        writes = rw lines at (writes_twice state.writes writes (omega (arith, few, length-append written_so_far (barred_line e ∷ []))));
       }

@@ -2,19 +2,19 @@
 use Rattle.std.proofs.Common.{◌≡◌, ℕ, ◌+◌, ◌<◌, ◌≤◌, Bool, true, false, List, [], ◌∷◌, ◌++◌, map, length, get_or, take, set, filter, sym, ap, ◌∙◌, arith}
 use Rattle.std.proofs.lemmas.List.Elements.{filter_more}
 use Rattle.std.proofs.lemmas.List.{append-nil, map-append, length-append, take_more_set}
-use Rattle.std.proofs.lemmas.Bool.{cond-true, cond-false}
+use Rattle.std.proofs.lemmas.Bool.Decides.{nat_tests}
 use Rattle.sharing.specs.declared.claims.Claim.{Claim}
 use Rattle.rules.specs.declared.terms.Entry.{Entry}
 use Rattle.rules.specs.Level.{claim_of}
-use Rattle.matching.proofs.Runs.{no_entry}
+use Rattle.rules.proofs.Defaults.{no_entry}
 
 -- a filter over one element more
 module _ {X : Type 0} (p : X → Bool) (xs : List X) (i : ℕ) (d : X) (in' : i < length xs) where
   pub kept_one : p (get_or xs i d) ≡ true → filter p (take (i + 1) xs) ≡ filter p (take i xs) ++ get_or xs i d ∷ []
-  kept_one one = filter_more p xs i d in' ∙ ap (λ l. filter p (take i xs) ++ l) (cond-true (p (get_or xs i d)) (get_or xs i d ∷ []) [] one)
+  kept_one one = filter_more p xs i d in' ∙ grind (arith, nat_tests)
 
   pub kept_other : p (get_or xs i d) ≡ false → filter p (take (i + 1) xs) ≡ filter p (take i xs)
-  kept_other other = filter_more p xs i d in' ∙ ap (λ l. filter p (take i xs) ++ l) (cond-false (p (get_or xs i d)) (get_or xs i d ∷ []) [] other) ∙ append-nil (filter p (take i xs))
+  kept_other other = filter_more p xs i d in' ∙ grind (arith, nat_tests, append-nil (filter p (take i xs)))
 
 -- the claims of those who pass, of the first i entries, stand in the first n places of the sheet
 pub record Gathered (t : Entry → Bool) (run : List Entry) (sheet : List Claim) (i n : ℕ) : Type 0 where

@@ -1,9 +1,9 @@
 -- Fills written and contracts taken off, one entry after another. Assumes nothing.
-use Rattle.std.proofs.Common.{◌≡◌, ℕ, ◌+◌, ◌-◌, ◌<◌, ◌≤◌, Bool, true, false, cond, ◌&&◌, ltb, List, [], ◌∷◌, ◌++◌, map, length, get_or, take, drop, set, filter, sym, refl, ap, ◌∙◌, subst, arith}
+use Rattle.std.proofs.Common.{◌≡◌, ℕ, ◌+◌, ◌-◌, ◌<◌, ◌≤◌, Bool, true, false, cond, ltb, List, [], ◌∷◌, ◌++◌, map, length, get_or, take, drop, set, filter, sym, refl, ap, ◌∙◌, subst, arith}
 use Rattle.std.specs.List.{AllZip}
 use Rattle.std.proofs.lemmas.List.Elements.{filter-append}
 use Rattle.std.proofs.lemmas.List.{append-nil, append_assoc, length-map, length-append, take_all, take_more, take-map, take_more_set, drop_all, drop-drop, length-drop, drop_more, drop-set-lt, get_or-map}
-use Rattle.std.proofs.lemmas.Bool.{cond_both, cond-true, cond-false, lt-ltb}
+use Rattle.std.proofs.lemmas.Bool.{cond-true, cond-false, lt-ltb}
 use Rattle.std.proofs.lemmas.Bool.Decides.{nat_tests}
 use Rattle.sharing.specs.Claims.{allotment_of}
 use Rattle.sharing.specs.Allotted.{no_claim}
@@ -11,11 +11,11 @@ use Rattle.rules.specs.declared.tape.Line.{Line}
 use Rattle.rules.specs.declared.tape.Line.TheVariants.{Fill}
 use Rattle.rules.specs.declared.tape.Step.{Step}
 use Rattle.rules.specs.declared.terms.Entry.{Entry}
-use Rattle.rules.specs.Level.{size_of, first_or_0, but_first, spread, resized, left_after, fills}
+use Rattle.rules.specs.Level.{size_of, but_first, spread, resized, left_after, fills}
 use Rattle.matching.specs.declared.lent.Lent.{Lent}
 use Rattle.matching.specs.Parts.{is_live, live, takes_part}
 use Rattle.matching.specs.Tapes.{Writes}
-use Rattle.matching.proofs.Runs.{no_entry}
+use Rattle.rules.proofs.Defaults.{no_entry}
 use Rattle.matching.proofs.Written.{writes_none, writes_twice, length_after}
 
 -- the line of a fill
@@ -45,29 +45,14 @@ left_of t ns es = left_after (spread t ns es) es
 abbrev pub lines_of : Step → (Entry → Bool) → List ℕ → List Entry → List Line
 lines_of k t ns es = fills k (spread t ns es) es
 
--- entries that are gone may be left out at the start, of what goes on as its rest does and passes by a gone entry that gave nothing
-module _ {X : Type 0} (out : List ℕ → List Entry → X)
-    (more : (n : ℕ) (e : Entry) (ns ms : List ℕ) (es fs : List Entry) → out ns es ≡ out ms fs → out (n ∷ ns) (e ∷ es) ≡ out (n ∷ ms) (e ∷ fs))
-    (by : (e : Entry) (ns : List ℕ) (es : List Entry) → is_live e ≡ false → out (0 ∷ ns) (e ∷ es) ≡ out ns es) (t : Entry → Bool) where
-  only_live : (ns : List ℕ) (es : List Entry) → out (spread (takes_part t) ns es) es ≡ out (spread t ns (live es)) (live es)
-  only_live ns [] = refl
-  only_live ns (e ∷ es) =
-      let whole : (b : Bool) → is_live e ≡ b → out (spread (takes_part t) ns (e ∷ es)) (e ∷ es) ≡ out (cond (b && t e) (first_or_0 ns ∷ spread (takes_part t) (but_first ns) es) (0 ∷ spread (takes_part t) ns es)) (e ∷ es) = λ b h. ap (λ x. out (cond (x && t e) (first_or_0 ns ∷ spread (takes_part t) (but_first ns) es) (0 ∷ spread (takes_part t) ns es)) (e ∷ es)) h in
-      cond_both (is_live e) (e ∷ live es) (live es) (λ l. out (spread (takes_part t) ns (e ∷ es)) (e ∷ es) ≡ out (spread t ns l) l)
-      (λ alive. whole true alive
-      ∙ elim (t e) as (λ b. out (cond b (first_or_0 ns ∷ spread (takes_part t) (but_first ns) es) (0 ∷ spread (takes_part t) ns es)) (e ∷ es) ≡ out (cond b (first_or_0 ns ∷ spread t (but_first ns) (live es)) (0 ∷ spread t ns (live es))) (e ∷ live es)) [
-        | true ↦ more (first_or_0 ns) e (spread (takes_part t) (but_first ns) es) (spread t (but_first ns) (live es)) es (live es) (only_live (but_first ns) es)
-        | false ↦ more 0 e (spread (takes_part t) ns es) (spread t ns (live es)) es (live es) (only_live ns es)
-      ])
-      (λ gone. whole false gone ∙ by e (spread (takes_part t) ns es) es gone ∙ only_live ns es)
-
+-- entries that are gone may be left out at the start
 pub left_live : (t : Entry → Bool) (ns : List ℕ) (es : List Entry) → left_of (takes_part t) ns es ≡ left_of t ns (live es)
-left_live t ns es =
-    only_live left_after (λ n e ns ms es fs same i. cond (ltb n e.size) (resized (e.size - n) e ∷ same i) (same i))
-    (λ e ns es gone. cond-false (is_live e) _ _ gone) t ns es
+left_live t ns [] = refl
+left_live t ns (e ∷ es) = grind (arith, nat_tests, left_live t (but_first ns) es, left_live t ns es)
 
 pub lines_live : (k : Step) (t : Entry → Bool) (ns : List ℕ) (es : List Entry) → lines_of k (takes_part t) ns es ≡ lines_of k t ns (live es)
-lines_live k t ns es = only_live (fills k) (λ n e ns ms es fs same i. cond (ltb 0 n) (fill k n e ∷ same i) (same i)) (λ e ns es gone. refl) t ns es
+lines_live k t ns [] = refl
+lines_live k t ns (e ∷ es) = grind (arith, nat_tests, lines_live k t (but_first ns) es, lines_live k t ns es)
 
 -- the entries es and the numbers ns are to come: with what is done they make what is left and the lines at the end
 pub record Rest (k : Step) (t : Entry → Bool) (all_left : List Entry) (all_lines : List Line) (ns : List ℕ) (es done : List Entry) (lines : List Line) : Type 0 where
@@ -80,40 +65,26 @@ module _ {k : Step} {t : Entry → Bool} {all_left : List Entry} {all_lines : Li
   -- an entry that does not take part
   rest_other : {ns : List ℕ} → t e ≡ false → Rest k t all_left all_lines ns (e ∷ es) done lines → Rest k t all_left all_lines ns es (done ++ live (e ∷ [])) lines
   rest_other {ns} other r =
-      let spreads : spread t ns (e ∷ es) ≡ 0 ∷ spread t ns es = ap (λ b. cond b (first_or_0 ns ∷ spread t (but_first ns) es) (0 ∷ spread t ns es)) other in
-      let kept : filter t (e ∷ es) ≡ filter t es = ap (λ b. cond b (e ∷ filter t es) (filter t es)) other in
+      let kept : filter t (e ∷ es) ≡ filter t es = cond-false (t e) _ _ other in
       record {
-        run =
-            append_assoc done (live (e ∷ [])) (left_of t ns es)
-            ∙ ap (λ l. done ++ (l ++ left_of t ns es)) (sym (unchanged e))
-            ∙ ap (λ l. done ++ l) (sym (ap (λ l. left_after l (e ∷ es)) spreads ∙ one_left 0 e (spread t ns es) es))
-            ∙ r.run;
-        tape = ap (λ l. lines ++ fills k l (e ∷ es)) (sym spreads) ∙ r.tape;
-        claims = subst (λ l. length l ≤ length ns) kept r.claims;
-        within = subst (λ l. AllZip ◌≤◌ (take (length l) ns) (map size_of l)) kept r.within;
+        run = append_assoc done (live (e ∷ [])) (left_of t ns es) ∙ grind (arith, nat_tests, one_left 0 e (spread t ns es) es, unchanged e, r.run);
+        tape = grind (arith, nat_tests, r.tape);
+        claims = omega (arith, r.claims, ap length kept);
+        within = rw kept at r.within;
       }
 
   -- an entry that takes part, and is given n
   module _ {n : ℕ} {ns : List ℕ} (has : t e ≡ true) (r : Rest k t all_left all_lines (n ∷ ns) (e ∷ es) done lines) where
-    spreads : spread t (n ∷ ns) (e ∷ es) ≡ n ∷ spread t ns es
-    spreads = ap (λ b. cond b (n ∷ spread t ns es) (0 ∷ spread t (n ∷ ns) es)) has
-
     kept : filter t (e ∷ es) ≡ e ∷ filter t es
-    kept = ap (λ b. cond b (e ∷ filter t es) (filter t es)) has
+    kept = cond-true (t e) _ _ has
 
     rest_within : (n ≤ e.size) × AllZip ◌≤◌ (take (length (filter t es)) ns) (map size_of (filter t es))
-    rest_within = subst (λ l. AllZip ◌≤◌ (take (length l) (n ∷ ns)) (map size_of l)) kept r.within
+    rest_within = rw kept at r.within
 
     rest_has : Rest k t all_left all_lines ns es (done ++ live (resized (e.size - n) e ∷ [])) (lines ++ cond (ltb 0 n) (fill k n e ∷ []) [])
     rest_has = record {
-      run =
-          append_assoc done (live (resized (e.size - n) e ∷ [])) (left_of t ns es)
-          ∙ ap (λ l. done ++ l) (sym (ap (λ l. left_after l (e ∷ es)) spreads ∙ one_left n e (spread t ns es) es))
-          ∙ r.run;
-      tape =
-          append_assoc lines (cond (ltb 0 n) (fill k n e ∷ []) []) (lines_of k t ns es)
-          ∙ ap (λ l. lines ++ l) (sym (ap (λ l. fills k l (e ∷ es)) spreads ∙ one_more (ltb 0 n) (fill k n e) (lines_of k t ns es)))
-          ∙ r.tape;
+      run = append_assoc done (live (resized (e.size - n) e ∷ [])) (left_of t ns es) ∙ grind (arith, nat_tests, one_left n e (spread t ns es) es, r.run);
+      tape = append_assoc lines (cond (ltb 0 n) (fill k n e ∷ []) []) (lines_of k t ns es) ∙ grind (arith, nat_tests, r.tape);
       claims = omega (arith, r.claims, ap length kept);
       within = rest_within.1;
     }
@@ -124,7 +95,7 @@ module _ {k : Step} {t : Entry → Bool} {all_left : List Entry} {all_lines : Li
   rest_none : {n : ℕ} {ns : List ℕ} → n ≤ 0 → t e ≡ true → Rest k t all_left all_lines (n ∷ ns) (e ∷ es) done lines → Rest k t all_left all_lines ns es (done ++ live (e ∷ [])) lines
   rest_none {n} {ns} none has r =
       let zero : n ≡ 0 = omega arith in
-      let rest = rest_has has (subst (λ m. Rest k t all_left all_lines (m ∷ ns) (e ∷ es) done lines) zero r) in
+      let rest = rest_has has (rw zero at r) in
       record {
         run = ap (λ l. (done ++ l) ++ left_of t ns es) (sym (unchanged e)) ∙ rest.run;
         tape = ap (λ l. l ++ lines_of k t ns es) (sym (append-nil lines)) ∙ rest.tape;
@@ -154,7 +125,7 @@ paid_none k t run lent claims within = record {
     run = refl;
     tape = refl;
     claims = omega (arith, length-map lent.sheet.now allotment_of);
-    within = subst (λ l. AllZip ◌≤◌ l (map size_of (filter t run))) (sym (take-map allotment_of (length (filter t run)) lent.sheet.now)) within;
+    within = rw take-map within;
   };
 }
 
@@ -170,7 +141,7 @@ module _ {k : Step} {t : Entry → Bool} {run₀ run : List Entry} {lent₀ lent
     paid_run = sym (append-nil (live run)) ∙ over.run
 
     pub paid_writes : Writes (lines_of k t (numbers lent₀) run₀) lent₀ lent
-    paid_writes = subst (λ l. Writes l lent₀ lent) (sym (append-nil p.lines) ∙ over.tape) p.writes
+    paid_writes = rw (sym (append-nil p.lines) ∙ over.tape) at p.writes
 
   -- one turn
   module _ (in' : i < length run) where
@@ -199,7 +170,7 @@ module _ {k : Step} {t : Entry → Bool} {run₀ run : List Entry} {lent₀ lent
       lines = p.lines;
       writes = p.writes;
       sheet = p.sheet;
-      rest = subst (λ l. State (drop j (numbers lent₀)) (drop (i + 1) run₀) l p.lines) done_same (rest_other other still);
+      rest = rw done_same at (rest_other other still);
     }
 
     -- it takes part, and has a number
@@ -225,7 +196,7 @@ module _ {k : Step} {t : Entry → Bool} {run₀ run : List Entry} {lent₀ lent
         lines = p.lines;
         writes = p.writes;
         sheet = p.sheet;
-        rest = subst (λ l. State (drop (j + 1) (numbers lent₀)) (drop (i + 1) run₀) l p.lines) done_same (rest_none none has with_number);
+        rest = rw done_same at (rest_none none has with_number);
       }
 
       -- or more
@@ -251,5 +222,5 @@ module _ {k : Step} {t : Entry → Bool} {run₀ run : List Entry} {lent₀ lent
               lines = p.lines ++ fill k number entry ∷ [];
               writes = writes_twice p.writes writes (omega (arith, longer));
               sheet = claims ∙ p.sheet;
-              rest = subst (λ l. State (drop (j + 1) (numbers lent₀)) (drop (i + 1) run₀) l (p.lines ++ fill k number entry ∷ [])) done more;
+              rest = rw done at more;
             }

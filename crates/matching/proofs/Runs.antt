@@ -1,23 +1,17 @@
 -- The first run of entries: those at the front that have the first one's price. Assumes nothing.
 use Rattle.std.proofs.Common.{◌≡◌, ℕ, suc, ◌+◌, ◌<◌, false, eqb, List, [], ◌∷◌, length, get_or, take, drop, sym, refl, ap, ◌∙◌, arith}
 use Rattle.std.specs.List.{prefix_len}
-use Rattle.std.proofs.lemmas.Bool.{cond_both, cond-true, cond-false, eq-eqb, eqb-true, ne_eqb, false≢true}
+use Rattle.std.proofs.lemmas.Bool.Decides.{nat_tests}
+use Rattle.std.proofs.lemmas.Bool.{cond_both, cond-true, eq-eqb, eqb-true, ne_eqb, false≢true}
 use Rattle.rules.specs.declared.terms.Entry.{Entry}
-use Rattle.rules.specs.declared.terms.Kind.TheVariants.{Customer}
 use Rattle.rules.specs.Walk.{into_runs, runs}
-
--- what a read past the end of a slice of entries would give
-abbrev pub no_entry : Entry
-no_entry = record { id = 0; firm = 0; kind = Customer; market = false; price = 0; size = 0; time = 0; own_firm_mark = false }
+use Rattle.rules.proofs.Defaults.{no_entry}
 
 -- an entry in front of one with another price is a run of its own
 into_apart : (e f : Entry) (rs : List (List Entry)) → eqb e.price f.price ≡ false → into_runs e (into_runs f rs) ≡ (e ∷ []) ∷ into_runs f rs
-into_apart e f [] apart = cond-false (eqb e.price f.price) _ _ apart
-into_apart e f ([] ∷ rs) apart = cond-false (eqb e.price f.price) _ _ apart
-into_apart e f ((g ∷ gs) ∷ rs) apart =
-    cond_both (eqb f.price g.price) ((f ∷ g ∷ gs) ∷ rs) ((f ∷ []) ∷ (g ∷ gs) ∷ rs) (λ l. into_runs e l ≡ (e ∷ []) ∷ l)
-    (λ _. cond-false (eqb e.price f.price) _ _ apart)
-    (λ _. cond-false (eqb e.price f.price) _ _ apart)
+into_apart e f [] apart = grind (arith, nat_tests)
+into_apart e f ([] ∷ rs) apart = grind (arith, nat_tests)
+into_apart e f ((g ∷ gs) ∷ rs) apart = grind (arith, nat_tests)
 
 -- how many entries at the front have a price
 abbrev pub level : ℕ → List Entry → ℕ

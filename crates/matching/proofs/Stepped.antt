@@ -1,32 +1,27 @@
 -- A step from a sheet: the claims gathered, the numbers shared, and what they give. Assumes nothing.
-use Rattle.std.proofs.Common.{◌≡◌, ℕ, ◌-◌, ◌≤◌, min, Bool, true, false, cond, List, [], ◌∷◌, map, length, take, filter, sym, refl, ap, ◌∙◌, subst, arith}
+use Rattle.std.proofs.Common.{◌≡◌, ℕ, ◌-◌, ◌≤◌, min, Bool, List, [], ◌∷◌, map, length, take, filter, sym, refl, ap, ◌∙◌, arith}
 use mathlib.Core.List.{map-map}
 use Rattle.std.specs.List.{AllZip}
-use Rattle.std.proofs.lemmas.List.Elements.{length_all_zip}
-use Rattle.std.proofs.lemmas.List.{length-map, take-map}
+use Rattle.std.proofs.lemmas.Bool.Decides.{nat_tests}
+use Rattle.std.proofs.lemmas.List.{take-map}
 use Rattle.sharing.specs.declared.claims.Claim.{Claim}
 use Rattle.sharing.specs.Claims as claims
 use Rattle.sharing.specs.Claims.{Shareable, allotted, allotment_of}
 use Rattle.sharing.specs.Sharing.{Sharing, Lawful}
 use Rattle.sharing.specs.Totals.{total}
+use Rattle.sharing.proofs.Shared.{as_many}
 use Rattle.rules.specs.declared.tape.Step.{Step}
 use Rattle.rules.specs.declared.terms.Entry.{Entry}
-use Rattle.rules.specs.Level.{size_of, claim_of, first_or_0, but_first, spread, left_after, fills, Deal, step}
+use Rattle.rules.specs.Level.{size_of, claim_of, spread, left_after, fills, Deal, step}
 use Rattle.rules.proofs.Held.{length_kept}
+use Rattle.matching.specs.Deals.{bare}
 use Rattle.matching.specs.Parts.{is_live, live}
 
 -- only as many numbers are spread as entries pass
 spread_front : (t : Entry → Bool) (ns : List ℕ) (es : List Entry) → spread t (take (length (filter t es)) ns) es ≡ spread t ns es
 spread_front t ns [] = refl
-spread_front t ns (e ∷ es) =
-    elim (t e) as (λ b. cond b (first_or_0 (take (length (cond b (e ∷ filter t es) (filter t es))) ns) ∷ spread t (but_first (take (length (cond b (e ∷ filter t es) (filter t es))) ns)) es) (0 ∷ spread t (take (length (cond b (e ∷ filter t es) (filter t es))) ns) es) ≡ cond b (first_or_0 ns ∷ spread t (but_first ns) es) (0 ∷ spread t ns es)) [
-      | true ↦ taken (λ ms. spread_front t ms es) ns
-      | false ↦ ap (λ l. 0 ∷ l) (spread_front t ns es)
-    ]
-  where
-    taken : ((ms : List ℕ) → spread t (take (length (filter t es)) ms) es ≡ spread t ms es) → (ms : List ℕ) → first_or_0 (take (length (e ∷ filter t es)) ms) ∷ spread t (but_first (take (length (e ∷ filter t es)) ms)) es ≡ first_or_0 ms ∷ spread t (but_first ms) es
-    taken more [] = refl
-    taken more (m ∷ ms) = ap (λ l. m ∷ l) (more ms)
+spread_front t [] (e ∷ es) = grind (arith, nat_tests, spread_front t [] es)
+spread_front t (n ∷ ns) (e ∷ es) = grind (arith, nat_tests, spread_front t ns es, spread_front t (n ∷ ns) es)
 
 -- claims that have been allotted numbers hold them
 allotments_of : (ns : List ℕ) (cs : List Claim) → length ns ≡ length cs → map allotment_of (allotted ns cs) ≡ ns
@@ -42,9 +37,9 @@ length_part t run = omega (arith, length_kept t (live run), length_kept is_live 
 -- a sheet from which those who take part are paid as the step says
 pub record FromSheet (k : Step) (t : Entry → Bool) (rule : Sharing) (amount balance : ℕ) (es : List Entry) (sheet : List Claim) (given : ℕ) : Type 0 where
   pub within : AllZip ◌≤◌ (map allotment_of (take (length (filter t es)) sheet)) (map size_of (filter t es))
-  pub run : left_after (spread t (map allotment_of sheet) es) es ≡ (step k t rule amount (record { balance = balance; run = es; lines = [] })).run
-  pub lines : fills k (spread t (map allotment_of sheet) es) es ≡ (step k t rule amount (record { balance = balance; run = es; lines = [] })).lines
-  pub left : balance - given ≡ (step k t rule amount (record { balance = balance; run = es; lines = [] })).balance
+  pub run : left_after (spread t (map allotment_of sheet) es) es ≡ (step k t rule amount (bare balance es)).run
+  pub lines : fills k (spread t (map allotment_of sheet) es) es ≡ (step k t rule amount (bare balance es)).lines
+  pub left : balance - given ≡ (step k t rule amount (bare balance es)).balance
 
 -- a rule shares over the claims of the step, which stand at the front of the sheet
 module _ (k : Step) (t : Entry → Bool) (rule : Sharing) (lawful : Lawful rule) (amount balance : ℕ) (es : List Entry) (ok : Shareable amount (map claim_of (filter t es)))
@@ -53,10 +48,10 @@ module _ (k : Step) (t : Entry → Bool) (rule : Sharing) (lawful : Lawful rule)
   asked = map claim_of (filter t es)
 
   abbrev deal : Deal
-  deal = record { balance = balance; run = es; lines = [] }
+  deal = bare balance es
 
   long : length (rule.allotments amount asked) ≡ length asked
-  long = length_all_zip ◌≤◌ (rule.allotments amount asked) (map claims.size_of asked) (lawful.within amount asked ok) ∙ length-map asked claims.size_of
+  long = as_many rule lawful amount asked ok
 
   -- the numbers on the sheet are the rule's
   numbers : map allotment_of (take (length (filter t es)) shared) ≡ rule.allotments amount asked
@@ -69,8 +64,7 @@ module _ (k : Step) (t : Entry → Bool) (rule : Sharing) (lawful : Lawful rule)
 
   sheet_within : AllZip ◌≤◌ (map allotment_of (take (length (filter t es)) shared)) (map size_of (filter t es))
   sheet_within =
-      subst (λ l. AllZip ◌≤◌ l (map size_of (filter t es))) (sym numbers)
-      (subst (AllZip ◌≤◌ (rule.allotments amount asked)) (map-map claims.size_of claim_of (filter t es)) (lawful.within amount asked ok))
+      rw numbers (rw map-map at (lawful.within amount asked ok))
 
   sheet_run : left_after (spread t (map allotment_of shared) es) es ≡ (step k t rule amount deal).run
   unfolding step

@@ -33,20 +33,17 @@ module _ (at : ℕ) (ls tape : List Line) (room : at + length ls ≤ length tape
       (λ t. (take_at (take at tape ++ ls) (drop n tape) n front t ++ ms) ++ drop-append-drop n tape (take at tape ++ ls) (n + length ms) (omega arith) front t)
       ∙ (λ t. append_assoc (take at tape) ls ms t ++ drop (longer t) tape)
 
+none_more : (at : ℕ) → at ≡ at + length {A = Line} []
+none_more at = omega arith
+
 pub written_none : (at : ℕ) (tape : List Line) → tape ≡ written at [] tape
-written_none at tape = sym (take-append-drop at tape) ∙ (λ t. sym (append-nil (take at tape)) t ++ drop (none t) tape)
-  where
-    none : at ≡ at + length {A = Line} []
-    none = omega arith
+written_none at tape = sym (take-append-drop at tape) ∙ (λ t. sym (append-nil (take at tape)) t ++ drop (none_more at t) tape)
 
 pub written_one : (at : ℕ) (tape : List Line) (l : Line) → at < length tape → set tape at l ≡ written at (l ∷ []) tape
 written_one at tape l room =
     ap (λ x. set x at l) (written_none at tape)
-    ∙ (λ i. set (written at [] tape) (none i) l)
+    ∙ (λ i. set (written at [] tape) (none_more at i) l)
     ∙ written_more at [] tape (omega arith) l (omega arith)
-  where
-    none : at ≡ at + length {A = Line} []
-    none = omega arith
 
 -- nothing is written, and the tape is as long as before
 pub writes_none : (l : Lent) → Writes [] l l

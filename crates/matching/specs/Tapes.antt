@@ -1,5 +1,5 @@
 -- A tape with lines written to it. Assumes nothing.
-use Rattle.std.specs.Prelude.{◌≡◌, ℕ, ◌+◌, List, ◌++◌, length, take, drop}
+use Rattle.std.specs.Prelude.{◌≡◌, ℕ, ◌+◌, ◌≤◌, List, ◌++◌, length, take, drop}
 use Rattle.rules.specs.declared.tape.Line.{Line}
 use Rattle.matching.specs.declared.lent.Lent.{Lent}
 
@@ -14,3 +14,8 @@ pub record Writes (ls : List Line) (old new : Lent) : Type 0 where
   pub sheet : length new.sheet.now ≡ length old.sheet.now
   pub tape_lender : new.tape.ghost_name ≡ old.tape.ghost_name
   pub sheet_lender : new.sheet.ghost_name ≡ old.sheet.ghost_name
+
+-- the host lent places for so many claims, and for so many lines behind those that the tape has
+pub record Room (claims lines : ℕ) (lent : Lent) : Type 0 where
+  pub sheet : claims ≤ length lent.sheet.now
+  pub tape : lent.lines + lines ≤ length lent.tape.now

@@ -6,7 +6,8 @@ use rules::Line;
 use sharing::Claim;
 
 // A claim sheet, and a tape of which the first lines are written.
-// Stays a slice with a count beside it: the core allocates nothing, and the tape is the host's own.
+// Stays a slice with a count beside it: the core allocates nothing, the tape is the host's own, and the count is what a call answers.
+// Stays without the rule that goes with it in the calls: customers' steps share by time, whatever that rule.
 #[derive(Drop)]
 pub struct Lent<'a> {
     pub sheet: &'a mut [Claim],
@@ -27,6 +28,7 @@ impl<'a> Lent<'a> {
     }
 
     // The next line of the tape.
+    #[tactic(auto, using(crate::proofs::Written::written_one))]
     pub fn write(&mut self, line: Line)
         requires room { self.old.lines < length self.old.tape.now }
         ensures writes { Writes (line ∷ []) self.old self.new }

@@ -5,6 +5,8 @@ ghost use Rattle.matching.specs.Parts.{group_test, part_test, step_for, takes_pa
 use rules::{Class, Entry, Kind, Step};
 
 // The makers with a guarantee: the quotes of the firm that an order is directed to, or all specialist quotes.
+// Stays beside `Option<u16>`, which has its shape: `None` would not say that specialists have it, and `directed`, which has that
+// type, is another thing: an order that is directed to a firm without a quote there meets the specialists.
 #[derive(Clone, Copy)]
 pub enum Group {
     QuotesOf(u16),
@@ -12,7 +14,8 @@ pub enum Group {
 }
 
 // The entries of a class, a group of makers, or all of the fourth class that are not in it.
-// Stays: the five steps differ by data, and not by copies of code or by closures.
+// Stays an enum that each method matches: contracts compute its test and its step from the value. With a closure for the test
+// each of the six functions that take a `Part` would need two clauses on it; a trait would have three impls for two matches.
 #[derive(Clone, Copy)]
 pub enum Part {
     Class(Class),

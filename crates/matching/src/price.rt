@@ -1,14 +1,13 @@
 // One price: barred entries are cancelled, and then the balance is offered in five steps, Rule 964NYP(j).
-ghost use Rattle.std.specs.Prelude.{◌≡◌, ◌+◌, ◌^◌, ◌<◌, ◌≤◌, not, map, length, filter, nat_lt};
-ghost use Rattle.std.specs.List.{AllByRecursion};
-ghost use Rattle.sharing.specs.Totals.{total, count};
+ghost use Rattle.std.specs.Prelude.{◌≡◌, ◌^◌, ◌<◌, ◌≤◌, not, map, length, filter};
+ghost use Rattle.std.specs.List.{AllByRecursion, list_any};
 ghost use Rattle.rules.specs.Checks.{is_barred};
 ghost use Rattle.rules.specs.Laws.{Tradable};
 ghost use Rattle.rules.specs.Level as level;
-ghost use Rattle.rules.specs.Level.{size_of, in_group, barred_line};
-ghost use Rattle.matching.specs.Deals.{bare, Dealt};
-ghost use Rattle.matching.specs.Parts.{group_test, part_test, live, taking};
-ghost use Rattle.matching.specs.Tapes.{Writes};
+ghost use Rattle.rules.specs.Level.{in_group, barred_line};
+ghost use Rattle.matching.specs.Deals.{bare, Asks, Dealt};
+ghost use Rattle.matching.specs.Parts.{group_test, part_test, live, takes_part, shown_by};
+ghost use Rattle.matching.specs.Tapes.{Room, Writes};
 
 use crate::lent::Lent;
 use crate::parts::{Group, Part};
@@ -19,9 +18,8 @@ use sharing::{ByTime, Rule};
 // Cancels the entries that are barred to an order, a line for each, with nothing left of them.
 fn bar(order: &Routed, run: &mut [Entry], lent: &mut Lent<'_>)
     requires live { AllByRecursion (λ e. 1 ≤ e.size) run.old }
-    requires room { lent.old.lines + length run.old ≤ length lent.old.tape.now }
+    requires room { Room 0 (length run.old) lent.old }
     ensures run { live run.new ≡ filter (λ e. not (is_barred order.now.firm order.now.own_firm_mark e)) run.old }
-    ensures places { length run.new ≡ length run.old }
     ensures writes { Writes (map barred_line (filter (is_barred order.now.firm order.now.own_firm_mark) run.old)) lent.old lent.new }
 {
     for e in run.iter_mut() {
@@ -39,20 +37,21 @@ fn bar(order: &Routed, run: &mut [Entry], lent: &mut Lent<'_>)
 
 // The contracts that those who take part show.
 fn shown(part: Part, run: &[Entry]) -> u32
-    requires { total size_of (live run.now) < 2 ^ 32 }
-    ensures { result ≡ total size_of (taking part run.now) }
+    requires { shown_by (part_test part) run.now < 2 ^ 32 }
+    ensures { result ≡ shown_by (part_test part) run.now }
 {
     run.iter().filter(|e| part.takes(e)).map(|e| e.size).sum()
 }
 
 // Somebody there takes part.
 fn any(part: Part, run: &[Entry]) -> bool
-    ensures { result ≡ nat_lt 0 (count (part_test part) (live run.now)) }
+    ensures { result ≡ list_any (takes_part (part_test part)) run.now }
 {
     run.iter().any(|e| part.takes(e))
 }
 
 // The guaranteed group: the quotes there of the firm that the order is directed to or, failing those, all specialist quotes.
+#[tactic(auto, using(crate::proofs::Shown::any_is))]
 fn group_at(directed: Option<u16>, run: &[Entry]) -> Group
     ensures { group_test result ≡ in_group directed (live run.now) }
 {
@@ -63,6 +62,7 @@ fn group_at(directed: Option<u16>, run: &[Entry]) -> Group
 }
 
 // Steps 4 and 5: where the guarantee acts, the group has no part in what is left.
+#[tactic(auto, using(crate::proofs::Makers::few_contracts))]
 fn makers<R: Rule>(
     rule: &R,
     at_best: bool,
@@ -71,9 +71,7 @@ fn makers<R: Rule>(
     run: &mut [Entry],
     lent: &mut Lent<'_>,
 ) -> u32
-    requires tradable { Tradable balance (live run.old) }
-    requires sheet { length run.old ≤ length lent.old.sheet.now }
-    requires room { lent.old.lines + length (level.makers (R.meaning rule.now) at_best directed (bare balance (live run.old))).lines ≤ length lent.old.tape.now }
+    requires { Asks (level.makers (R.meaning rule.now) at_best directed) run.old lent.old balance }
     ensures { Dealt (level.makers (R.meaning rule.now) at_best directed (bare balance (live run.old))) run.old run.new lent.old lent.new result }
 {
     let group = group_at(directed, run);
@@ -99,8 +97,7 @@ pub(crate) fn price<R: Rule>(
     lent: &mut Lent<'_>,
 ) -> u32
     requires tradable { Tradable balance run.old }
-    requires sheet { length run.old ≤ length lent.old.sheet.now }
-    requires room { lent.old.lines + length run.old ≤ length lent.old.tape.now }
+    requires room { Room (length run.old) (length run.old) lent.old }
     ensures { Dealt (level.level (R.meaning rule.now) order.now at_best balance run.old) run.old run.new lent.old lent.new result }
 {
     bar(order, run, lent);

@@ -1,5 +1,5 @@
 // From price to price, in the places of a side.
-ghost use Rattle.std.specs.Prelude.{◌≡◌, ◌+◌, ◌^◌, ◌<◌, ◌≤◌, ◌∷◌, length, take, drop};
+ghost use Rattle.std.specs.Prelude.{◌≡◌, ◌^◌, ◌<◌, ◌≤◌, ◌∷◌, length, take, drop};
 ghost use Rattle.std.specs.List.{AllByRecursion};
 ghost use Rattle.sharing.specs.Totals.{total};
 ghost use Rattle.rules.specs.Laws.{Tradable};
@@ -7,8 +7,8 @@ ghost use Rattle.rules.specs.Level.{size_of};
 ghost use Rattle.rules.specs.Walk as walking;
 ghost use Rattle.rules.specs.Walk.{runs};
 ghost use Rattle.matching.specs.Parts.{live};
-ghost use Rattle.matching.specs.Tapes.{Writes};
-ghost use Rattle.matching.specs.Walks.{walked};
+ghost use Rattle.matching.specs.Tapes.{Room, Writes};
+ghost use Rattle.matching.specs.Walks.{walked, Leaves};
 
 use crate::lent::Lent;
 use crate::price::price;
@@ -54,7 +54,6 @@ fn run_length(entries: &[Entry]) -> usize
 fn close_gaps(entries: &mut [Entry]) -> usize
     ensures value { result ≡ length (live entries.old) }
     ensures entries { take result entries.new ≡ live entries.old }
-    ensures length { length entries.new ≡ length entries.old }
 {
     let mut k = 0;
     // Stays: one slice is read at one place and written at another, which no iterator does.
@@ -78,13 +77,9 @@ pub fn walk<R: Rule>(
     lent: &mut Lent<'_>,
 ) -> Walked
     requires tradable { AllByRecursion (Tradable order.now.size) (runs entries.old) }
-    requires sheet { length entries.old ≤ length lent.old.sheet.now }
-    requires tape { lent.old.lines + length entries.old ≤ length lent.old.tape.now }
-    ensures balance { result.balance ≡ (walked (R.meaning rule.now) order.now national away entries.old).balance }
-    ensures left { result.left ≡ length (walked (R.meaning rule.now) order.now national away entries.old).run }
-    ensures entries { take result.left entries.new ≡ (walked (R.meaning rule.now) order.now national away entries.old).run }
+    requires room { Room (length entries.old) (length entries.old) lent.old }
+    ensures leaves { Leaves (walked (R.meaning rule.now) order.now national away entries.old) result entries.new lent.old lent.new }
     ensures places { length entries.new ≡ length entries.old }
-    ensures writes { Writes (walked (R.meaning rule.now) order.now national away entries.old).lines lent.old lent.new }
 {
     let Routed { side, cap, .. } = *order;
     let mut balance = order.size;

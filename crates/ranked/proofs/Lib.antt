@@ -1,3 +1,4 @@
+pub mod Lists
 pub mod Orderly
 pub mod Shifts
 pub mod Strict

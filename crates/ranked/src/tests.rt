@@ -40,11 +40,7 @@ fn keyed(key: u32, tag: u32) -> Item {
 #[test]
 fn goes_behind_equals(rt: HostRuntime) -> Result<(), Fail> {
     let mut places = [keyed(0, 0); 5];
-    let mut list = RankedList {
-        ranking: ByKey,
-        places: &mut places,
-        len: 0,
-    };
+    let mut list = RankedList::new(ByKey, &mut places);
     list.insert(keyed(7, 1))?;
     list.insert(keyed(3, 2))?;
     list.insert(keyed(7, 3))?;
@@ -67,11 +63,7 @@ fn goes_behind_equals(rt: HostRuntime) -> Result<(), Fail> {
 #[test]
 fn refuses_when_full(rt: HostRuntime) -> Result<(), Fail> {
     let mut places = [keyed(1, 1), keyed(2, 2)];
-    let mut list = RankedList {
-        ranking: ByKey,
-        places: &mut places,
-        len: 0,
-    };
+    let mut list = RankedList::new(ByKey, &mut places);
     list.insert(keyed(2, 2))?;
     list.insert(keyed(1, 1))?;
     assert_eq!(rt; list.insert(keyed(0, 3)), Err(Full));
@@ -83,11 +75,7 @@ fn refuses_when_full(rt: HostRuntime) -> Result<(), Fail> {
 #[test]
 fn takes_out_what_stands_there(rt: HostRuntime) {
     let mut places = [keyed(4, 1), keyed(2, 2), keyed(3, 3), keyed(2, 4)];
-    let mut list = RankedList {
-        ranking: ByKey,
-        places: &mut places,
-        len: 0,
-    };
+    let mut list = RankedList::new(ByKey, &mut places);
     list.insert_rest();
     assert_eq!(rt; list.remove(4), None);
     assert_eq!(rt; list.remove(1), Some(keyed(2, 4)));

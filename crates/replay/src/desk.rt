@@ -11,8 +11,6 @@ use std::fmt::Display;
 use std::io;
 use std::str::Lines;
 
-const NO_LINE: Line = Line::Filled { id: 0, firm: 0 };
-
 // An entry that came to rest.
 #[derive(Clone, Copy)]
 struct Rested {
@@ -21,36 +19,10 @@ struct Rested {
     side: Side,
 }
 
-// A claim sheet and a tape, of which a call is lent the first places.
-#[derive(Clone, Copy)]
-struct Lent {
-    sheet: [Claim; MOST],
-    tape: [Line; MOST],
-}
-
-impl Lent {
-    // Both with nothing in their places.
-    fn new() -> Lent {
-        Lent {
-            sheet: [Claim::default(); MOST],
-            tape: [NO_LINE; MOST],
-        }
-    }
-
-    // The first places of both, as many as a call asks for.
-    fn places(&mut self, means: Means) -> (&mut [Claim], &mut [Line]) {
-        let sheet = self.sheet.as_mut_slice();
-        let tape = self.tape.as_mut_slice();
-        (
-            &mut sheet[..means.sheet.count],
-            &mut tape[..means.tape.count],
-        )
-    }
-}
-
 // A book, the tickets of its orders that are out, and all entries that ever rested there.
 pub struct Desk<'a, P: Print> {
     rt: &'a P,
+    heap: Global,
     book: Book<'a>,
     held: BTreeMap<u64, Held>,
     rested: Vec<Rested>,
@@ -60,6 +32,7 @@ impl<'a, P: Print> Desk<'a, P> {
     pub fn new(rt: &'a P, heap: Global, book: Book<'a>) -> Self {
         Desk {
             rt,
+            heap,
             book,
             held: BTreeMap::new(heap),
             rested: Vec::new(heap),
@@ -75,10 +48,9 @@ impl<'a, P: Print> Desk<'a, P> {
     }
 
     // Prints the lines of the tape, and notes the entry that comes to rest on a side.
-    // Stays a tape and a count, as the book answers it: a slice is no plainer, since it needs a proof that the count is within.
-    fn show_tape(&mut self, side: Side, tape: &[Line], lines: usize) -> io::Result<()> {
-        println!(self.rt; "ok {lines}")?;
-        for line in tape.iter().take(lines) {
+    fn show_tape(&mut self, side: Side, tape: &[Line]) -> io::Result<()> {
+        println!(self.rt; "ok {}", tape.len())?;
+        for line in tape {
             println!(self.rt; "{}", Shown(*line))?;
             if let Line::Rest { id, firm, .. } = *line {
                 self.rested.push(Rested { id, firm, side })?;
@@ -89,34 +61,37 @@ impl<'a, P: Print> Desk<'a, P> {
 
     fn enter(&mut self, means: Means, order: Order) -> Result<(), Stop> {
         let Order { id, side, .. } = order;
-        let mut lent = Lent::new();
-        let (sheet, tape) = lent.places(means);
-        match self.book.enter(&means.rule, &order, sheet, tape) {
+        let (mut sheet, mut tape) = means.lend(self.heap)?;
+        match self.book.enter(&means.rule, &order, &mut sheet, &mut tape) {
             Err(why) => Ok(println!(self.rt; "{}", Shown(why))?),
             Ok(Accepted { lines, ticket }) => {
                 if let Some(ticket) = ticket {
                     keep(&mut self.held, id, Held { side, ticket })?;
                 }
-                Ok(self.show_tape(side, &lent.tape, lines)?)
+                tape.truncate(lines);
+                Ok(self.show_tape(side, &tape)?)
             }
         }
     }
 
     fn give_back(&mut self, means: Means, id: u64, executed: u32) -> Result<(), Stop> {
+        // Lent first: where memory is short, the ticket is still held.
+        let (mut sheet, mut tape) = means.lend(self.heap)?;
         let Some(Held { side, ticket }) = self.held.remove(&id) else {
             return Ok(println!(self.rt; "noticket")?);
         };
-        let mut lent = Lent::new();
-        let (sheet, tape) = lent.places(means);
         match self
             .book
-            .give_back(&means.rule, ticket, executed, sheet, tape)
+            .give_back(&means.rule, ticket, executed, &mut sheet, &mut tape)
         {
             Err(NotReturned { refusal, ticket }) => {
                 keep(&mut self.held, id, Held { side, ticket })?;
                 Ok(println!(self.rt; "{}", Shown(refusal))?)
             }
-            Ok(lines) => Ok(self.show_tape(side, &lent.tape, lines)?),
+            Ok(lines) => {
+                tape.truncate(lines);
+                Ok(self.show_tape(side, &tape)?)
+            }
         }
     }
 
@@ -174,6 +149,7 @@ impl<'a, P: Print> Desk<'a, P> {
     pub fn close(self, run: Result<(), Stop>) -> Result<(), Stop> {
         let Desk {
             rt: _,
+            heap: _,
             mut book,
             mut held,
             rested: _,
@@ -182,14 +158,14 @@ impl<'a, P: Print> Desk<'a, P> {
             leave_all(held);
             return Err(stop);
         }
-        let mut lent = Lent::new();
+        // Lent from the stack, with all the places that a sheet may ask for: no ticket is left for want of memory.
         while let Some((_, Held { side: _, ticket })) = held.pop_first() {
             if let Err(NotReturned { refusal: _, ticket }) = book.give_back(
                 &ByTime,
                 ticket,
                 0,
-                &mut lent.sheet,
-                &mut lent.tape,
+                &mut [Claim::default(); MOST],
+                &mut [Line::default(); MOST],
             ) {
                 leave(ticket);
                 leave_all(held);

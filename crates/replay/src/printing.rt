@@ -8,8 +8,7 @@ pub struct Shown<T>(pub T);
 
 impl fmt::Display for Shown<Refusal> {
     fn fmt<W: fmt::Write>(&self, f: &mut fmt::Formatter<W>) -> fmt::Result {
-        let number = self.0.number();
-        write!(f, "refused {number}")
+        write!(f, "refused {}", self.0.number())
     }
 }
 
@@ -22,19 +21,13 @@ impl fmt::Display for Shown<Line> {
                 size,
                 price,
                 step,
-            } => {
-                let number = step.number();
-                write!(f, "fill {id} {firm} {size} {price} {number}")
-            }
+            } => write!(f, "fill {id} {firm} {size} {price} {}", step.number()),
             Line::Cancel {
                 id,
                 firm,
                 size,
                 cause,
-            } => {
-                let number = cause.number();
-                write!(f, "cancel {id} {firm} {size} {number}")
-            }
+            } => write!(f, "cancel {id} {firm} {size} {}", cause.number()),
             Line::Filled { id, firm } => write!(f, "filled {id} {firm}"),
             Line::Rest {
                 id,

@@ -1,9 +1,12 @@
 // Reads the lines of a sheet, word by word.
 ghost use Rattle.replay.specs.declared.reading.TheConstants.{MOST};
-ghost use Rattle.std.specs.Prelude.{◌≤◌};
+ghost use Rattle.std.specs.Prelude.{◌≡◌, ◌≤◌, IfOk, vec_len};
 
 use crate::shipped::Shipped;
-use rules::{Kind, Order, Side, Term};
+use rules::{Kind, Line, Order, Side, Term};
+use sharing::Claim;
+use std::alloc::Global;
+use std::io;
 use std::str::{FromStr, SplitWhitespace};
 
 // The most places that a sheet may ask for: more than a side may have, so that too many can be asked for.
@@ -20,6 +23,15 @@ pub struct Places {
     ghost within: { count ≤ MOST },
 }
 
+impl Places {
+    // So many places on the heap, with nothing in them.
+    pub fn lend<T: Clone + Default + Drop>(self, heap: Global) -> io::Result<Vec<T>>
+        ensures { IfOk result (λ v. vec_len v ≡ self.count) }
+    {
+        Ok(vec![in heap; T::default(); self.count]?)
+    }
+}
+
 #[derive(Clone, Copy)]
 pub struct Opening {
     pub bids: Places,
@@ -34,6 +46,16 @@ pub struct Means {
     pub rule: Shipped,
     pub tape: Places,
     pub sheet: Places,
+}
+
+impl Means {
+    // A claim sheet and a tape of so many places.
+    pub fn lend(self, heap: Global) -> io::Result<(Vec<Claim>, Vec<Line>)>
+        ensures sheet { IfOk result (λ lent. vec_len lent.0 ≡ self.sheet.count) }
+        ensures tape { IfOk result (λ lent. vec_len lent.1 ≡ self.tape.count) }
+    {
+        Ok((self.sheet.lend(heap)?, self.tape.lend(heap)?))
+    }
 }
 
 #[derive(Clone, Copy)]

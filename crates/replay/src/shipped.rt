@@ -12,6 +12,8 @@ pub enum Shipped {
     SizeProRata,
 }
 
+// Stays a match at each method. One match that hands a `&dyn Rule` to a closure was tried: what such a closure asks and answers
+// cannot be stated yet. Calls generic in the rule would match as often, and nothing would prove which rule shares.
 impl Rule for Shipped {
     ghost meaning = { elim [ ByTime ↦ by_time | SizeProRata ↦ size_pro_rata ] };
 

@@ -19,7 +19,8 @@ pub enum Stop {
     Left,
 }
 
-// Stays two conversions by hand: a derived `From` takes what the variant holds, and `main` would print `Unreadable(Unreadable)`.
+// Stays two conversions by hand. `#[from]` of `thiserror` was tried: `Unreadable` then holds the other type, to be hidden from
+// what `main` prints, and each variant needs a message, which nobody reads.
 impl From<io::Error> for Stop {
     fn from(e: io::Error) -> Stop {
         Stop::Failed(e)

@@ -1,8 +1,7 @@
 -- From price to price: nothing is lost and nothing is made. Assumes nothing.
-use Rattle.std.proofs.Common.{◌≡◌, ℕ, ◌+◌, ◌≤◌, cond, ◌&&◌, eqb, leb, List, [], ◌∷◌, ◌++◌, Option, arith}
+use Rattle.std.proofs.Common.{◌≡◌, ℕ, ◌+◌, ◌≤◌, cond, eqb, List, [], ◌++◌, Option, arith}
 use Rattle.std.specs.List.{AllByRecursion}
 use Rattle.std.proofs.ByRecursion.{All-weaker}
-use Rattle.std.proofs.lemmas.Bool.{cond_both}
 use Rattle.sharing.specs.Sharing.{Sharing, Lawful}
 use Rattle.sharing.specs.Totals.{one_if, total, count}
 use Rattle.sharing.specs.Allotted.{total_append}
@@ -10,14 +9,17 @@ use Rattle.rules.specs.declared.terms.Entry.{Entry}
 use Rattle.rules.specs.declared.terms.Routed.{Routed}
 use Rattle.rules.specs.Laws.{traded_in, taken_from, holding, Tradable, names, LeftOf, AllPrices}
 use Rattle.rules.specs.Level.{Deal, level}
-use Rattle.rules.specs.Prices.{in_reach}
 use Rattle.rules.specs.Walk.{at_price, is_price_of, flat, walk}
+use Rattle.rules.proofs.Chain.{walk_by}
 use Rattle.rules.proofs.Leaves.{left_refl, left_append, level_once, level_leaves}
 use Rattle.rules.proofs.OnePrice.{one_price}
 
 -- a smaller balance can trade where a larger one can
 pub smaller : (a b : ℕ) → a ≤ b → (run : List Entry) → Tradable b run → Tradable a run
 smaller a b le run ok = record { few = ok.few; small = omega (arith, ok.small); sized = ok.sized; timed = ok.timed }
+
+pub all_smaller : (a b : ℕ) → a ≤ b → (rs : List (List Entry)) → AllByRecursion (Tradable b) rs → AllByRecursion (Tradable a) rs
+all_smaller a b le rs ok = All-weaker (Tradable b) (Tradable a) (smaller a b le) rs ok
 
 -- what a deal did to a balance and to entries
 record Fair (balance : ℕ) (es : List Entry) (d : Deal) : Type 0 where
@@ -40,24 +42,16 @@ joined balance r es here beyond one rest = record {
 }
 
 fair : (rule : Sharing) → Lawful rule → (o : Routed) (national away : Option ℕ) (balance : ℕ) (rs : List (List Entry)) → AllByRecursion (Tradable balance) rs → Fair balance (flat rs) (walk rule o national away balance rs)
-unfolding walk
-fair rule lawful o national away balance [] ok = stays balance []
-fair rule lawful o national away balance (r ∷ rs) ok =
-    let here = level rule o (at_price (is_price_of national) r) balance r in
-    let one = one_price rule lawful o (at_price (is_price_of national) r) balance r ok.0 in
-    let beyond = walk rule o national away here.balance rs in
-    let rest = fair rule lawful o national away here.balance rs (All-weaker (Tradable balance) (Tradable here.balance) (smaller here.balance balance (omega (arith, one.pays))) rs ok.1) in
-    cond_both (leb 1 balance && at_price (in_reach o.side o.cap away) r)
-    (record { balance = beyond.balance; run = here.run ++ beyond.run; lines = here.lines ++ beyond.lines })
-    (record { balance = balance; run = r ++ flat rs; lines = [] })
-    (Fair balance (r ++ flat rs))
-    (λ _. joined balance r (flat rs) here beyond (record {
-      pays = one.pays;
-      accounts = one.accounts;
-      once = level_once rule o (at_price (is_price_of national) r) balance r;
-      leaves = level_leaves rule o (at_price (is_price_of national) r) balance r;
-    }) rest)
-    (λ _. stays balance (r ++ flat rs))
+fair rule lawful o national away =
+    walk_by (λ balance rs d. AllByRecursion (Tradable balance) rs → Fair balance (flat rs) d) rule o national away
+    (λ balance rs ok. stays balance (flat rs))
+    (λ balance r rs beyond _ rest ok.
+    let best = at_price (is_price_of national) r in
+    let here = level rule o best balance r in
+    let one = one_price rule lawful o best balance r ok.0 in
+    joined balance r (flat rs) here beyond
+    (record { pays = one.pays; accounts = one.accounts; once = level_once rule o best balance r; leaves = level_leaves rule o best balance r })
+    (rest (all_smaller here.balance balance (omega (arith, one.pays)) rs ok.1)))
 
 pub all_prices : AllPrices
 all_prices rule lawful o national away balance rs ok =

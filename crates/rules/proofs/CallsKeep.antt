@@ -1,16 +1,14 @@
 -- Every accepted call leaves the book sound. Assumes nothing.
-use Rattle.std.proofs.Common.{◌≡◌, ℕ, ◌+◌, ◌-◌, ◌<◌, ◌≤◌, Bool, true, false, cond, not, ◌&&◌, ◌||◌, eqb, ltb, leb, ◌⊎◌, List, [], ◌∷◌, ◌++◌, length, is_some, Some, None, filter, Option, unwrap_or, sym, refl, ap, ◌∙◌, subst, inl, inr, ⊎_elim, arith}
+use Rattle.std.proofs.Common.{◌≡◌, ℕ, ◌+◌, ◌-◌, ◌<◌, ◌≤◌, Bool, true, false, cond, not, ◌&&◌, ◌||◌, eqb, ltb, leb, ◌⊎◌, List, [], ◌∷◌, length, is_some, Some, None, filter, Option, unwrap_or, sym, refl, ap, ◌∙◌, subst, inl, inr, ⊎_elim, arith}
 use Rattle.std.specs.List.{AllByRecursion}
 use Rattle.std.proofs.lemmas.Bool.Decides.{nat_tests}
 use Rattle.std.proofs.lemmas.Bool.{false≢true, cases_Bool, cond_both, cond-true, cond-false, and_parts, eqb-false, leb-false, ltb-false}
-use Rattle.sharing.specs.Rules.{by_time}
 use Rattle.sharing.specs.Sharing.{Sharing}
 use Rattle.sharing.specs.Totals.{one_if, count}
 use Rattle.rules.specs.declared.numbers.Cause.TheVariants.{Immediate, AwayPrice, NoPlaceOnReturn}
 use Rattle.rules.specs.declared.numbers.Refusal.{Refusal}
 use Rattle.rules.specs.declared.numbers.Refusal.TheVariants.{FirmZero, AnotherFirms, NeitherRestingNorOut, OutOnRoute, NotOutHere}
 use Rattle.rules.specs.declared.tape.Step.{Step}
-use Rattle.rules.specs.declared.tape.Step.TheVariants.{CustomerMarketOrders, OtherMarketOrders, CustomerLimitOrders, GuaranteedQuotes, OtherInterest}
 use Rattle.rules.specs.declared.terms.Entry.{Entry}
 use Rattle.rules.specs.declared.terms.Routed.{Routed}
 use Rattle.rules.specs.declared.terms.Side.{Side}
@@ -19,12 +17,12 @@ use Rattle.rules.specs.Calls.{Entering, entry_of, entry_checks, reference, cappe
 use Rattle.rules.specs.Caps.{is_ioc, is_quote}
 use Rattle.rules.specs.Laws.{LeftOf}
 use Rattle.rules.specs.Laws.LeftOf.{same, fewer}
-use Rattle.rules.specs.Level.{resized, Deal, step, in_class, in_group, for_group, makers, unbarred, level}
+use Rattle.rules.specs.Level.{resized, Deal, step, unbarred, level}
 use Rattle.rules.specs.Model.{Model, Opening, entries, away, places, with_entries, with_away, with_out, with_last_id, with_last_time, best, national_best, ranked_in}
-use Rattle.rules.specs.Outcome.{Done, Outcome, Check, checked, lent_checks, bad_price, found_in, entry_with, row_with, standing_by}
-use Rattle.rules.specs.Outcome.Standing.{resting}
+use Rattle.rules.specs.Outcome.{Outcome, Check, checked, lent_checks, bad_price, found_in, entry_with, row_with, Standing, standing_by, standing}
+use Rattle.rules.specs.Outcome.Standing.{resting, out_on_route, nowhere}
 use Rattle.rules.specs.Outcome.Outcome.{refused, done}
-use Rattle.rules.specs.Prices.{in_reach, is_price}
+use Rattle.rules.specs.Prices.{is_price}
 use Rattle.rules.specs.Sides.{other_side}
 use Rattle.rules.specs.Sound.{GoodEntry, GoodRow, standing_with, Sound, Keeps, Kept}
 use Rattle.rules.specs.Trade.{away_in_cap, Ending, ending, sized, resting_entry, ended, traded, finished, trade}
@@ -32,13 +30,45 @@ use Rattle.rules.specs.Trade.Ending.{is_filled, is_routed, is_cancelled, rests}
 use Rattle.rules.specs.Walk.{at_price, is_price_of, runs, flat, walk}
 use Rattle.rules.proofs.CapPrices.{cap_price, national_price, best_price}
 use Rattle.rules.proofs.Leaves.{count_left, left_refl, left_append, left_kept, level_leaves, runs_are_whole}
-use Rattle.rules.proofs.OnePrice.{makers_by}
+use Rattle.rules.proofs.Chain.{level_by, walk_by}
 use Rattle.rules.proofs.Moves.{has_id, counts, good_side, thinned, recounted, rested, sent_out, given_back, stands_nowhere}
 
 -- a call is refused, or none of its checks fits and it is carried out
 pub checked_by : (P : Outcome → Type 0) → ((r : Refusal) → P (refused r)) → (cs : List Check) (o : Outcome) → (AllByRecursion (λ c. c.0 ≡ false) cs → P o) → P (checked cs o)
 checked_by P down [] o h = h tt
 checked_by P down (c ∷ cs) o h = cond_both c.0 (refused c.1) (checked cs o) P (λ _. down c.1) (λ free. checked_by P down cs o (λ all. h (free, all)))
+
+-- an entry is refused, or none of its checks fits and it misses its least size or trades
+pub entry_by : (P : Outcome → Type 0) → ((why : Refusal) → P (refused why)) → (rule : Sharing) (c : Entering) (m : Model) → let counted = with_last_id c.order.id m in
+    (AllByRecursion (λ k. k.0 ≡ false) (entry_checks c m) → least_missed c.order m ≡ true → P (done (missed c.order counted)))
+    → (AllByRecursion (λ k. k.0 ≡ false) (entry_checks c m) → least_missed c.order m ≡ false → P (done (trade rule (capped c.order m) c.order.may_route counted))) → P (entry_of rule c m)
+unfolding entry_of
+entry_by P down rule c m misses trades =
+    let counted = with_last_id c.order.id m in
+    let d1 = missed c.order counted in
+    let d2 = trade rule (capped c.order m) c.order.may_route counted in
+    checked_by P down (entry_checks c m) (done (cond (least_missed c.order m) d1 d2)) (λ all. cond_both (least_missed c.order m) d1 d2 (λ d. P (done d)) (misses all) (trades all))
+
+-- a return is refused, or the order is out, none of the checks fits and what was not executed trades
+pub return_by : (P : Outcome → Type 0) → ((why : Refusal) → P (refused why)) → (rule : Sharing) (c : Returning) (m : Model)
+    → ((r : Routed) → row_with c.id m.out ≡ Some r → AllByRecursion (λ k. k.0 ≡ false) (return_checks c m r) → P (done (trade rule (sized (r.size - c.executed) r) false (with_out (without_row c.id m.out) m))))
+    → P (return_of rule c m)
+unfolding return_of
+return_by P down rule c m trades = go (row_with c.id m.out) refl
+  where
+    go : (r : Option Routed) → row_with c.id m.out ≡ r → P (returned rule c m r)
+    go None found = checked_by P down (lent_checks c.tape c.sheet m []) (refused NotOutHere) (λ _. down NotOutHere)
+    go (Some r) found = checked_by P down (return_checks c m r) (done (trade rule (sized (r.size - c.executed) r) false (with_out (without_row c.id m.out) m))) (trades r found)
+
+-- where an id stands on a side, is out or is nowhere
+pub standing_cases : (P : Standing → Type 0) (i : ℕ) (m : Model) → ((s : Side) (e : Entry) → entry_with i (entries s m) ≡ Some e → P (resting s e)) → ((x : Routed) → P (out_on_route x)) → P nowhere → P (standing i m)
+standing_cases P i m stands out none = go (entry_with i m.bids) refl (entry_with i m.offers) refl (row_with i m.out)
+  where
+    go : (b : Option Entry) → entry_with i m.bids ≡ b → (o : Option Entry) → entry_with i m.offers ≡ o → (x : Option Routed) → P (standing_by b o x)
+    go (Some e) found o else x = stands Buy e found
+    go None nothing (Some e) found x = stands Sell e found
+    go None nothing None else (Some x) = out x
+    go None nothing None else None = none
 
 checked_keeps : (cs : List Check) (o : Outcome) → (AllByRecursion (λ c. c.0 ≡ false) cs → Keeps o) → Keeps (checked cs o)
 checked_keeps cs o h = checked_by Keeps (λ r. tt) cs o h
@@ -48,39 +78,18 @@ step_balance : (k : Step) (test : Entry → Bool) (rule : Sharing) (amount : ℕ
 unfolding step
 step_balance k test rule amount d = omega arith
 
-makers_balance : (rule : Sharing) (at_best : Bool) (directed : Option ℕ) (d : Deal) → (makers rule at_best directed d).balance ≤ d.balance
-makers_balance rule at_best directed d =
-    let fourth = step GuaranteedQuotes (in_group directed d.run) rule (for_group directed d) d in
-    makers_by (λ e. e.balance ≤ d.balance) rule at_best directed d
-    (λ _. omega (arith, step_balance OtherInterest (λ e. in_class 4 e && not (in_group directed d.run e)) rule fourth.balance fourth, step_balance GuaranteedQuotes (in_group directed d.run) rule (for_group directed d) d))
-    (λ _. step_balance OtherInterest (in_class 4) rule d.balance d)
-
 pub level_balance : (rule : Sharing) (o : Routed) (at_best : Bool) (balance : ℕ) (run : List Entry) → (level rule o at_best balance run).balance ≤ balance
-unfolding level unbarred
+unfolding unbarred
 level_balance rule o at_best balance run =
-    let e0 = unbarred o balance run in
-    let e1 = step CustomerMarketOrders (in_class 1) by_time e0.balance e0 in
-    let e2 = step OtherMarketOrders (in_class 2) rule e1.balance e1 in
-    let e3 = step CustomerLimitOrders (in_class 3) by_time e2.balance e2 in
-    let s1 = step_balance CustomerMarketOrders (in_class 1) by_time e0.balance e0 in
-    let s2 = step_balance OtherMarketOrders (in_class 2) rule e1.balance e1 in
-    let s3 = step_balance CustomerLimitOrders (in_class 3) by_time e2.balance e2 in
-    omega (arith, makers_balance rule at_best o.directed e3)
+    level_by (λ d. d.balance ≤ balance) (λ k test r amount d h. omega (arith, step_balance k test r amount d)) rule o at_best balance run (omega arith)
 
 walk_leaves : (rule : Sharing) (o : Routed) (national near : Option ℕ) (balance : ℕ) (rs : List (List Entry)) → LeftOf (flat rs) (walk rule o national near balance rs).run × ((walk rule o national near balance rs).balance ≤ balance)
-unfolding walk
-walk_leaves rule o national near balance [] = (left_refl [], omega arith)
-walk_leaves rule o national near balance (r ∷ rs) =
+walk_leaves rule o national near =
+    walk_by (λ balance rs d. LeftOf (flat rs) d.run × (d.balance ≤ balance)) rule o national near
+    (λ balance rs. (left_refl (flat rs), omega arith))
+    (λ balance r rs beyond _ rest.
     let best = at_price (is_price_of national) r in
-    let here = level rule o best balance r in
-    let beyond = walk rule o national near here.balance rs in
-    let rest = walk_leaves rule o national near here.balance rs in
-    cond_both (leb 1 balance && at_price (in_reach o.side o.cap near) r)
-    (record { balance = beyond.balance; run = here.run ++ beyond.run; lines = here.lines ++ beyond.lines })
-    (record { balance = balance; run = r ++ flat rs; lines = [] })
-    (λ (d : Deal). LeftOf (r ++ flat rs) d.run × (d.balance ≤ balance))
-    (λ _. (left_append (level_leaves rule o best balance r) rest.0, omega (arith, rest.1, level_balance rule o best balance r)))
-    (λ _. (left_refl (r ++ flat rs), omega arith))
+    (left_append (level_leaves rule o best balance r) rest.0, omega (arith, rest.1, level_balance rule o best balance r)))
 
 pub traded_leaves : (rule : Sharing) (o : Routed) (m : Model) → LeftOf (entries (other_side o.side) m) (traded rule o m).run × ((traded rule o m).balance ≤ o.size)
 unfolding traded
@@ -172,16 +181,11 @@ pub counted_sound : (c : Entering) (m : Model) → Sound m → EntryFits c m →
 counted_sound c m sound fits = recounted (record m.counters { last_id = c.order.id }) m sound (omega (arith, fits.above)) (omega arith) sound.bounded
 
 entry_keeps : (rule : Sharing) (c : Entering) (m : Model) → Sound m → Keeps (entry_of rule c m)
-unfolding entry_of
 entry_keeps rule c m sound =
     let o = c.order in
-    let counted = with_last_id o.id m in
-    checked_keeps (entry_checks c m) (done (cond (least_missed o m) (missed o counted) (trade rule (capped o m) o.may_route counted))) (λ all.
+    entry_by Keeps (λ why. tt) rule c m (λ all _. counted_sound c m sound (entry_fits c m sound all)) (λ all _.
     let fits = entry_fits c m sound all in
-    let sound' = counted_sound c m sound fits in
-    cond_both (least_missed o m) (missed o counted) (trade rule (capped o m) o.may_route counted) (λ (d : Done). Sound d.after)
-    (λ _. sound')
-    (λ _. trade_keeps rule (capped o m) o.may_route counted sound' (stands_nowhere o.id m sound fits.above) fits.cap fits.most (omega arith) (omega (arith, sound.few_out, fits.time)) fits.room))
+    trade_keeps rule (capped o m) o.may_route (with_last_id o.id m) (counted_sound c m sound fits) (stands_nowhere o.id m sound fits.above) fits.cap fits.most (omega arith) (omega (arith, sound.few_out, fits.time)) fits.room)
 
 -- what is found by its id
 module _ {X : Type 0} (id : X → ℕ) (i : ℕ) where
@@ -216,23 +220,17 @@ module _ {X : Type 0} (id : X → ℕ) (i : ℕ) where
   found_counts (x ∷ xs) y found = grind (arith, nat_tests, found_counts xs y)
 
 return_keeps : (rule : Sharing) (c : Returning) (m : Model) → Sound m → Keeps (return_of rule c m)
-unfolding return_of
-return_keeps rule c m sound = go (row_with c.id m.out) refl
-  where
-    go : (r : Option Routed) → row_with c.id m.out ≡ r → Keeps (returned rule c m r)
-    go None found = checked_keeps (lent_checks c.tape c.sheet m []) (refused NotOutHere) (λ _. tt)
-    go (Some r) found =
-        checked_keeps (return_checks c m r) (done (trade rule (sized (r.size - c.executed) r) false (with_out (without_row c.id m.out) m))) (λ _.
-        let id : Routed → ℕ = λ x. x.id in
-        let good = found_all id c.id (GoodRow m.opening.tick m.counters) m.out r found sound.out in
-        let same = found_id id c.id m.out r found in
-        let none = others_none id c.id m.out in
-        let fewer_rows = others_fewer id c.id m.out in
-        let one = found_counts id c.id m.out r found in
-        let fresh : standing_with c.id (with_out (without_row c.id m.out) m) ≡ 0 = omega (arith, none, one, sound.unique c.id) in
-        trade_keeps rule (sized (r.size - c.executed) r) false (with_out (without_row c.id m.out) m) (given_back (λ x. not (eqb x.id c.id)) m sound)
-        (ap (λ j. standing_with j (with_out (without_row c.id m.out) m)) same ∙ fresh)
-        good.price (omega (arith, good.size)) good.id (omega (arith, fewer_rows, one, sound.bounded)) (λ impossible. absurd (false≢true impossible)))
+return_keeps rule c m sound = return_by Keeps (λ why. tt) rule c m (λ r found _.
+    let id : Routed → ℕ = λ x. x.id in
+    let good = found_all id c.id (GoodRow m.opening.tick m.counters) m.out r found sound.out in
+    let same = found_id id c.id m.out r found in
+    let none = others_none id c.id m.out in
+    let fewer_rows = others_fewer id c.id m.out in
+    let one = found_counts id c.id m.out r found in
+    let fresh : standing_with c.id (with_out (without_row c.id m.out) m) ≡ 0 = omega (arith, none, one, sound.unique c.id) in
+    trade_keeps rule (sized (r.size - c.executed) r) false (with_out (without_row c.id m.out) m) (given_back (λ x. not (eqb x.id c.id)) m sound)
+    (ap (λ j. standing_with j (with_out (without_row c.id m.out) m)) same ∙ fresh)
+    good.price (omega (arith, good.size)) good.id (omega (arith, fewer_rows, one, sound.bounded)) (λ impossible. absurd (false≢true impossible)))
 
 market_keeps : (c : Updating) (m : Model) → Sound m → Keeps (market_of c m)
 unfolding market_of
@@ -244,16 +242,11 @@ market_keeps c m sound = checked_keeps (market_checks c m) (done (record { answe
 
 cancel_keeps : (c : Cancelling) (m : Model) → Sound m → Keeps (cancel_of c m)
 unfolding cancel_of
-cancel_keeps c m sound = go (entry_with c.id m.bids) (entry_with c.id m.offers) (row_with c.id m.out)
-  where
-    resting_at : (s : Side) (e : Entry) → Keeps (cancel_at c m (resting s e))
-    resting_at s e = checked_keeps (cancel_checks c e.firm) (done (record { answer = e.size; lines = []; after = with_entries s (without_entry c.id (entries s m)) m; ticket = None })) (λ _. thinned s (without_entry c.id (entries s m)) m sound (left_kept (λ f. not (eqb f.id c.id)) (entries s m)))
-
-    go : (b o : Option Entry) (r : Option Routed) → Keeps (cancel_at c m (standing_by b o r))
-    go (Some e) o r = resting_at Buy e
-    go None (Some e) r = resting_at Sell e
-    go None None (Some r) = checked_keeps (cancel_checks c r.firm) (refused OutOnRoute) (λ _. tt)
-    go None None None = checked_keeps ((eqb c.firm 0, FirmZero) ∷ []) (refused NeitherRestingNorOut) (λ _. tt)
+cancel_keeps c m sound =
+    standing_cases (λ x. Keeps (cancel_at c m x)) c.id m
+    (λ s e found. checked_keeps (cancel_checks c e.firm) (done (record { answer = e.size; lines = []; after = with_entries s (without_entry c.id (entries s m)) m; ticket = None })) (λ _. thinned s (without_entry c.id (entries s m)) m sound (left_kept (λ f. not (eqb f.id c.id)) (entries s m))))
+    (λ x. checked_keeps (cancel_checks c x.firm) (refused OutOnRoute) (λ _. tt))
+    (checked_keeps ((eqb c.firm 0, FirmZero) ∷ []) (refused NeitherRestingNorOut) (λ _. tt))
 
 opening_keeps : (c : Opening) → Keeps (opening_of c)
 unfolding opening_of
@@ -294,26 +287,22 @@ reduced_left i n (f ∷ es) e found once one le =
 
 -- a larger size: the entry goes, and comes back with a new time
 enlarged_keeps : (c : Resizing) (s : Side) (e : Entry) (m : Model) → Sound m → entry_with c.id (entries s m) ≡ Some e → 1 ≤ c.size → c.size ≤ 99999 → m.counters.last_time ≤ 4000000000 → Sound (with_last_time (m.counters.last_time + 1) (with_entries s (ranked_in s (enlarged c.size (m.counters.last_time + 1) e) (without_entry c.id (entries s m))) m))
-enlarged_keeps c Buy e m sound found some most time =
-    let id : Entry → ℕ = λ x. x.id in
-    let good = found_all id c.id (GoodEntry m.opening.tick m.counters) m.bids e found sound.bids.good in
-    let shorter = others_fewer id c.id m.bids in
-    let one = found_counts id c.id m.bids e found in
-    let gone_from = others_none id c.id m.bids in
-    let m1 = with_entries Buy (without_entry c.id m.bids) m in
-    let fresh : standing_with c.id m1 ≡ 0 = omega (arith, gone_from, one, sound.unique c.id) in
-    rested Buy (enlarged c.size (m.counters.last_time + 1) e) m1 (thinned Buy (without_entry c.id m.bids) m sound (left_kept (λ f. not (eqb f.id c.id)) m.bids))
-    (ap (λ j. standing_with j m1) (found_id id c.id m.bids e found) ∙ fresh) some most good.price good.id refl (omega (arith, sound.bids.few)) (omega (arith, sound.few_out))
-enlarged_keeps c Sell e m sound found some most time =
-    let id : Entry → ℕ = λ x. x.id in
-    let good = found_all id c.id (GoodEntry m.opening.tick m.counters) m.offers e found sound.offers.good in
-    let shorter = others_fewer id c.id m.offers in
-    let one = found_counts id c.id m.offers e found in
-    let gone_from = others_none id c.id m.offers in
-    let m1 = with_entries Sell (without_entry c.id m.offers) m in
-    let fresh : standing_with c.id m1 ≡ 0 = omega (arith, gone_from, one, sound.unique c.id) in
-    rested Sell (enlarged c.size (m.counters.last_time + 1) e) m1 (thinned Sell (without_entry c.id m.offers) m sound (left_kept (λ f. not (eqb f.id c.id)) m.offers))
-    (ap (λ j. standing_with j m1) (found_id id c.id m.offers e found) ∙ fresh) some most good.price good.id refl (omega (arith, sound.offers.few)) (omega (arith, sound.few_out))
+enlarged_keeps c s e m sound found some most time =
+    let left = without_entry c.id (entries s m) in
+    let good = found_all id c.id (GoodEntry m.opening.tick m.counters) (entries s m) e found (good_side s m sound).good in
+    let one = found_counts id c.id (entries s m) e found in
+    let fresh : standing_with c.id (with_entries s left m) ≡ 0 = omega (arith, counts s left m c.id, others_none id c.id (entries s m), one, sound.unique c.id) in
+    back s left (thinned s left m sound (left_kept (λ f. not (eqb f.id c.id)) (entries s m)))
+    (ap (λ j. standing_with j (with_entries s left m)) (found_id id c.id (entries s m) e found) ∙ fresh)
+    good.price good.id (omega (arith, others_fewer id c.id (entries s m), one, (good_side s m sound).few))
+  where
+    id : Entry → ℕ
+    id x = x.id
+
+    back : (s : Side) (fs : List Entry) → Sound (with_entries s fs m) → standing_with e.id (with_entries s fs m) ≡ 0 → is_price m.opening.tick e.price ≡ true → e.id ≤ m.counters.last_id → length fs < places s m
+        → Sound (with_last_time (m.counters.last_time + 1) (with_entries s (ranked_in s (enlarged c.size (m.counters.last_time + 1) e) fs) m))
+    back Buy fs less fresh price given room = rested Buy (enlarged c.size (m.counters.last_time + 1) e) (with_entries Buy fs m) less fresh some most price given refl room (omega (arith, sound.few_out))
+    back Sell fs less fresh price given room = rested Sell (enlarged c.size (m.counters.last_time + 1) e) (with_entries Sell fs m) less fresh some most price given refl room (omega (arith, sound.few_out))
 
 pub side_once : (s : Side) (m : Model) → Sound m → (i : ℕ) → count (has_id i) (entries s m) ≤ 1
 side_once Buy m sound i = omega (arith, sound.unique i)
@@ -321,21 +310,16 @@ side_once Sell m sound i = omega (arith, sound.unique i)
 
 resize_keeps : (c : Resizing) (m : Model) → Sound m → Keeps (resize_of c m)
 unfolding resize_of
-resize_keeps c m sound = go (entry_with c.id m.bids) refl (entry_with c.id m.offers) refl (row_with c.id m.out)
-  where
-    resting_at : (s : Side) (e : Entry) → entry_with c.id (entries s m) ≡ Some e → Keeps (resize_at c m (resting s e))
-    resting_at s e found = checked_keeps (resting_checks c m e) (done (record { answer = c.size; lines = []; after = after_resize c s e m; ticket = None })) (λ all.
-        let some : 1 ≤ c.size = grind (arith, nat_tests, all.1.0) in
-        let most : c.size ≤ 99999 = grind (arith, nat_tests, all.1.0) in
-        cond_both (ltb e.size c.size) _ _ Sound
-        (λ larger. enlarged_keeps c s e m sound found some most (grind (arith, nat_tests, all.1.1.1.0)))
-        (λ not_larger. thinned s (reduced_in c.id c.size (entries s m)) m sound (reduced_left c.id c.size (entries s m) e found (side_once s m sound c.id) some (ltb-false e.size c.size not_larger))))
-
-    go : (b : Option Entry) → entry_with c.id m.bids ≡ b → (o : Option Entry) → entry_with c.id m.offers ≡ o → (r : Option Routed) → Keeps (resize_at c m (standing_by b o r))
-    go (Some e) found o else r = resting_at Buy e found
-    go None nothing (Some e) found r = resting_at Sell e found
-    go None nothing None else (Some r) = checked_keeps (resize_checks c ((not (eqb r.firm c.firm), AnotherFirms) ∷ [])) (refused OutOnRoute) (λ _. tt)
-    go None nothing None else None = checked_keeps (resize_checks c []) (refused NeitherRestingNorOut) (λ _. tt)
+resize_keeps c m sound =
+    standing_cases (λ x. Keeps (resize_at c m x)) c.id m
+    (λ s e found. checked_keeps (resting_checks c m e) (done (record { answer = c.size; lines = []; after = after_resize c s e m; ticket = None })) (λ all.
+    let some : 1 ≤ c.size = grind (arith, nat_tests, all.1.0) in
+    let most : c.size ≤ 99999 = grind (arith, nat_tests, all.1.0) in
+    cond_both (ltb e.size c.size) _ _ Sound
+    (λ larger. enlarged_keeps c s e m sound found some most (grind (arith, nat_tests, all.1.1.1.0)))
+    (λ not_larger. thinned s (reduced_in c.id c.size (entries s m)) m sound (reduced_left c.id c.size (entries s m) e found (side_once s m sound c.id) some (ltb-false e.size c.size not_larger)))))
+    (λ x. checked_keeps (resize_checks c ((not (eqb x.firm c.firm), AnotherFirms) ∷ [])) (refused OutOnRoute) (λ _. tt))
+    (checked_keeps (resize_checks c []) (refused NeitherRestingNorOut) (λ _. tt))
 
 pub kept : Kept
 kept = record {

@@ -50,7 +50,7 @@ module _ (tick : ℕ) (valid : is_tick tick ≡ true) where
 pub national_price : (tick : ℕ) (s : Side) (b a : Option ℕ) → bad_price tick b ≡ false → bad_price tick a ≡ false → bad_price tick (national s b a) ≡ false
 national_price tick s None a here there = there
 national_price tick s (Some p) None here there = here
-national_price tick s (Some p) (Some q) here there = cond_both (is_better s q p) q p (λ x. not (is_price tick x) ≡ false) (λ _. there) (λ _. here)
+national_price tick s (Some p) (Some q) here there = grind (arith, nat_tests, here, there)
 
 pub best_price : (tick : ℕ) (n : Counters) (es : List Entry) → AllByRecursion (GoodEntry tick n) es → bad_price tick (best es) ≡ false
 best_price tick n [] good = refl

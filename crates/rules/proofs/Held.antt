@@ -4,6 +4,8 @@ use Rattle.std.specs.List.{AllZip, AllByRecursion}
 use Rattle.std.proofs.ByRecursion.{all_kept_by, kept_by_passes, All-map}
 use Rattle.std.proofs.lemmas.Bool.Decides.{nat_tests}
 use Rattle.std.proofs.lemmas.Bool.{cond_both}
+use Rattle.std.proofs.lemmas.List.Sums.{length-filter, count_by-le-length}
+use Rattle.ranked.proofs.Lists.{all_both}
 use Rattle.sharing.specs.Totals.{total}
 use Rattle.sharing.specs.Claims.{Ascending}
 use Rattle.rules.specs.declared.tape.Step.{Step}
@@ -75,8 +77,12 @@ taken_fills i k (n ∷ ns) (e ∷ es) long = grind (arith, nat_tests, taken_fill
 pub all_left : (P : Entry → Type 0) → ((n : ℕ) (e : Entry) → P e → P (resized n e)) → (ns : List ℕ) (es : List Entry) → AllByRecursion P es → AllByRecursion P (left_after ns es)
 all_left P keeps ns es = all_left_of P (λ n e one le. keeps n e) (left_given ns es)
 
-pub sized_left : (ns : List ℕ) (es : List Entry) → AllByRecursion (λ e. (1 ≤ e.size) × (e.size ≤ 99999)) es → AllByRecursion (λ e. (1 ≤ e.size) × (e.size ≤ 99999)) (left_after ns es)
-sized_left ns es = all_left_of (λ e. (1 ≤ e.size) × (e.size ≤ 99999)) (λ n e one le h. (one, omega (arith, h.1))) (left_given ns es)
+-- a size that an entry may have
+abbrev pub Sized : Entry → Type 0
+Sized e = (1 ≤ e.size) × (e.size ≤ 99999)
+
+pub sized_left : (ns : List ℕ) (es : List Entry) → AllByRecursion Sized es → AllByRecursion Sized (left_after ns es)
+sized_left ns es = all_left_of Sized (λ n e one le h. (one, omega (arith, h.1))) (left_given ns es)
 
 pub length_left : (ns : List ℕ) (es : List Entry) → length (left_after ns es) ≤ length es
 length_left ns es = length_left_of (left_given ns es)
@@ -89,8 +95,7 @@ pub by_time_kept : (p : Entry → Bool) (es : List Entry) → ByTime es → ByTi
 by_time_kept p es = by_time_left_of (left_kept p es)
 
 pub length_kept : {X : Type 0} (p : X → Bool) (es : List X) → length (filter p es) ≤ length es
-length_kept p [] = omega arith
-length_kept p (e ∷ es) = grind (arith, nat_tests, length_kept p es)
+length_kept p es = omega (arith, length-filter p es, count_by-le-length p es)
 
 -- entries of one class claim in the order of their times
 pub ascending_kept : (p : Entry → Bool) (k : ℕ) → ((e : Entry) → p e ≡ true → class_of e ≡ k) → (es : List Entry) → ByTime es → Ascending (map claim_of (filter p es))
@@ -99,11 +104,8 @@ ascending_kept p k one (e ∷ es) s =
     cond_both (p e) (e ∷ filter p es) (filter p es) (λ l. Ascending (map claim_of l))
     (λ yes. (
       All-map (λ c. e.time < c.time) claim_of (filter p es)
-          (both (filter p es) (all_kept_by p (λ f. class_of e ≡ class_of f → e.time < f.time) es s.0) (kept_by_passes p es) yes),
+          (all_both (λ f. class_of e ≡ class_of f → e.time < f.time) (λ f. p f ≡ true) (λ f. e.time < f.time) (λ f later passes. later (one e yes ∙ sym (one f passes)))
+          (filter p es) (all_kept_by p (λ f. class_of e ≡ class_of f → e.time < f.time) es s.0) (kept_by_passes p es)),
       ascending_kept p k one es s.1,
     ))
     (λ _. ascending_kept p k one es s.1)
-  where
-    both : (fs : List Entry) → AllByRecursion (λ f. class_of e ≡ class_of f → e.time < f.time) fs → AllByRecursion (λ f. p f ≡ true) fs → p e ≡ true → AllByRecursion (λ f. e.time < f.time) fs
-    both [] later passes here = tt
-    both (f ∷ fs) later passes here = (later.0 (one e here ∙ sym (one f passes.0)), both fs later.1 passes.1 here)

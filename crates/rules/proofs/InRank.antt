@@ -3,29 +3,23 @@ use Rattle.std.proofs.Common.{◌≡◌, ℕ, ◌<◌, true, List, [], ◌∷◌
 use Rattle.std.specs.List.{AllByRecursion}
 use Rattle.std.proofs.ByRecursion.{All-weaker}
 use Rattle.std.proofs.lemmas.Bool.{cond_both, true_from_ne_false}
-use Rattle.std.proofs.lemmas.Bool.Decides.{nat_tests}
 use Rattle.ranked.specs.Ranked.{ahead}
 use Rattle.ranked.proofs.Orderly.{all_inserted_into}
 use Rattle.rules.specs.declared.terms.Entry.{Entry}
 use Rattle.rules.specs.declared.terms.Side.{Side}
-use Rattle.rules.specs.declared.terms.Side.TheVariants.{Buy, Sell}
 use Rattle.rules.specs.Laws.{LeftOf}
-use Rattle.rules.specs.Laws.LeftOf.{none, gone, same, fewer}
 use Rattle.rules.specs.Model.{ranked_in}
 use Rattle.rules.specs.Ranks.{rank_of, rank_before}
 use Rattle.rules.specs.Sound.{InRank}
 use Rattle.rules.specs.TotalRanks.{same_time}
-pub use Rattle.rules.proofs.LeftOver.{all_left_of, length_left_of}
+use Rattle.rules.specs.contracts.ranks.SideRankingEntry.TheImpl.Laws.{transitive-law}
+use Rattle.rules.proofs.LeftOver.{each_left_of}
 
 pub rank_transitive : (s : Side) (r t u : ℕ × ℕ × ℕ) → rank_before s r t ≡ true → rank_before s t u ≡ true → rank_before s r u ≡ true
-rank_transitive Buy r t u p q = grind (arith, nat_tests)
-rank_transitive Sell r t u p q = grind (arith, nat_tests)
+rank_transitive = transitive-law
 
 pub in_rank_left : (s : Side) {es fs : List Entry} → LeftOf es fs → InRank s es → InRank s fs
-in_rank_left s none r = tt
-in_rank_left s (gone g) r = in_rank_left s g r.1
-in_rank_left s (same {e} g) r = (all_left_of (λ f. rank_before s (rank_of e) (rank_of f) ≡ true) (λ n f one le h. h) g r.0, in_rank_left s g r.1)
-in_rank_left s (fewer {e} n one le g) r = (all_left_of (λ f. rank_before s (rank_of e) (rank_of f) ≡ true) (λ m f one' le' h. h) g r.0, in_rank_left s g r.1)
+in_rank_left s g r = each_left_of (λ e f. rank_before s (rank_of e) (rank_of f) ≡ true) (λ n e f h. (h, h)) g r
 
 -- an entry with a later time than all finds its place
 pub in_rank_inserted : (s : Side) (e : Entry) (es : List Entry) → AllByRecursion (λ f. f.time < e.time) es → InRank s es → InRank s (ranked_in s e es)

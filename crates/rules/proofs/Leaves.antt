@@ -17,7 +17,9 @@ use Rattle.rules.specs.Laws.{names, LeftOf, RunsAreWhole}
 use Rattle.rules.specs.Level.{claim_of, first_or_0, but_first, spread, resized, fills, Deal, step, in_class, in_group, for_group, makers, barred_line, unbarred, level}
 use Rattle.rules.specs.Walk.{into_runs, runs, flat}
 pub use Rattle.rules.proofs.LeftOver.{left_refl, left_trans, left_append, left_kept, left_given, count_left}
-use Rattle.rules.proofs.OnePrice.{group_class, group_steady, makers_by}
+use Rattle.rules.proofs.Chain.{beside, deal_0, deal_1, deal_2, deal_3, makers_by, level_by}
+use Rattle.rules.proofs.OnePrice.{group_class, group_steady}
+use Rattle.rules.proofs.Steps.{barred_split}
 
 pub step_leaves : (k : Step) (test : Entry → Bool) (rule : Sharing) (amount : ℕ) (d : Deal) → LeftOf d.run (step k test rule amount d).run
 unfolding step
@@ -61,12 +63,6 @@ count_two : (c g q : Entry → Bool) → ((e : Entry) → g e ≡ true → c e �
 count_two c g q only [] = omega arith
 count_two c g q only (e ∷ es) = grind (arith, nat_tests, only e, count_two c g q only es)
 
-pub makers_leaves : (rule : Sharing) (at_best : Bool) (directed : Option ℕ) (d : Deal) → LeftOf d.run (makers rule at_best directed d).run
-makers_leaves rule at_best directed d =
-    makers_by (λ e. LeftOf d.run e.run) rule at_best directed d
-    (λ _. left_trans (step_leaves GuaranteedQuotes (in_group directed d.run) rule (for_group directed d) d) (step_leaves OtherInterest _ rule _ _))
-    (λ _. step_leaves OtherInterest (in_class 4) rule d.balance d)
-
 -- the entries of a class among those that a test picks
 abbrev of_class : (Entry → Bool) → ℕ → Entry → Bool
 of_class mine k e = in_class k e && mine e
@@ -79,7 +75,7 @@ module _ (named : Line → Bool) (mine : Entry → Bool) (agree : Agree named mi
   makers_picked : (rule : Sharing) (at_best : Bool) (directed : Option ℕ) (d : Deal) → count named (makers rule at_best directed d).lines ≤ count named d.lines + count (of_class mine 4) d.run
   makers_picked rule at_best directed d =
       let group = in_group directed d.run in
-      let others : Entry → Bool = λ e. in_class 4 e && not (group e) in
+      let others = beside group in
       let fourth = step GuaranteedQuotes group rule (for_group directed d) d in
       makers_by (λ e. count named e.lines ≤ count named d.lines + count (of_class mine 4) d.run) rule at_best directed d
       (λ _.
@@ -88,8 +84,7 @@ module _ (named : Line → Bool) (mine : Entry → Bool) (agree : Agree named mi
       (λ _. step_picked named mine agree OtherInterest (in_class 4) rule d.balance d)
 
   count_barred : (barred : Entry → Bool) (es : List Entry) → count named (map barred_line (filter barred es)) + count mine (filter (λ e. not (barred e)) es) ≡ count mine es
-  count_barred barred [] = refl
-  count_barred barred (e ∷ es) = grind (arith, nat_tests, agree.barred e, count_barred barred es)
+  count_barred = barred_split (λ l. one_if (named l)) (λ e. one_if (mine e)) (λ e. ap one_if (agree.barred e))
 
 pub makers_once : (i : ℕ) (rule : Sharing) (at_best : Bool) (directed : Option ℕ) (d : Deal) → count (names i) (makers rule at_best directed d).lines ≤ count (names i) d.lines + count (of_class (λ e. eqb e.id i) 4) d.run
 makers_once i = makers_picked (names i) (λ e. eqb e.id i) (by_id i)
@@ -99,43 +94,31 @@ count_all [] = refl
 count_all (x ∷ xs) = omega (arith, count_all xs)
 
 module _ (rule : Sharing) (o : Routed) (at_best : Bool) (balance : ℕ) (run : List Entry) where
-  abbrev e0 : Deal
-  e0 = unbarred o balance run
-
-  abbrev e1 : Deal
-  e1 = step CustomerMarketOrders (in_class 1) by_time e0.balance e0
-
-  abbrev e2 : Deal
-  e2 = step OtherMarketOrders (in_class 2) rule e1.balance e1
-
-  abbrev e3 : Deal
-  e3 = step CustomerLimitOrders (in_class 3) by_time e2.balance e2
-
-  to_1 : LeftOf e0.run e1.run
-  to_1 = step_leaves CustomerMarketOrders (in_class 1) by_time e0.balance e0
-
-  to_2 : LeftOf e0.run e2.run
-  to_2 = left_trans to_1 (step_leaves OtherMarketOrders (in_class 2) rule e1.balance e1)
-
-  to_3 : LeftOf e0.run e3.run
-  to_3 = left_trans to_2 (step_leaves CustomerLimitOrders (in_class 3) by_time e2.balance e2)
-
   pub level_leaves : LeftOf run (level rule o at_best balance run).run
-  unfolding level unbarred
-  level_leaves = left_trans (left_trans (left_kept (λ e. not (is_barred o.firm o.own_firm_mark e)) run) to_3) (makers_leaves rule at_best o.directed e3)
+  unfolding unbarred
+  level_leaves =
+      level_by (λ d. LeftOf run d.run) (λ k test r amount d h. left_trans h (step_leaves k test r amount d))
+      rule o at_best balance run (left_kept (λ e. not (is_barred o.firm o.own_firm_mark e)) run)
 
   module _ (named : Line → Bool) (mine : Entry → Bool) (agree : Agree named mine) where
-    level_lines : count named (level rule o at_best balance run).lines ≤ count named e0.lines + count mine e0.run
+    of_class_left : (k : ℕ) {es fs : List Entry} → LeftOf es fs → count (of_class mine k) fs ≤ count (of_class mine k) es
+    of_class_left k = count_left (of_class mine k) (λ n e. ap (λ b. in_class k e && b) (agree.steady n e))
+
+    level_lines : count named (level rule o at_best balance run).lines ≤ count named (unbarred o balance run).lines + count mine (unbarred o balance run).run
     unfolding level
     level_lines =
+        let e0 = deal_0 rule o balance run in
+        let e1 = deal_1 rule o balance run in
+        let e2 = deal_2 rule o balance run in
+        let e3 = deal_3 rule o balance run in
+        let to_1 = step_leaves CustomerMarketOrders (in_class 1) by_time e0.balance e0 in
+        let to_2 = left_trans to_1 (step_leaves OtherMarketOrders (in_class 2) rule e1.balance e1) in
+        let to_3 = left_trans to_2 (step_leaves CustomerLimitOrders (in_class 3) by_time e2.balance e2) in
         let s1 = step_picked named mine agree CustomerMarketOrders (in_class 1) by_time e0.balance e0 in
         let s2 = step_picked named mine agree OtherMarketOrders (in_class 2) rule e1.balance e1 in
         let s3 = step_picked named mine agree CustomerLimitOrders (in_class 3) by_time e2.balance e2 in
         let s4 = makers_picked named mine agree rule at_best o.directed e3 in
-        let c2 = count_left (of_class mine 2) (λ n e. ap (λ b. in_class 2 e && b) (agree.steady n e)) to_1 in
-        let c3 = count_left (of_class mine 3) (λ n e. ap (λ b. in_class 3 e && b) (agree.steady n e)) to_2 in
-        let c4 = count_left (of_class mine 4) (λ n e. ap (λ b. in_class 4 e && b) (agree.steady n e)) to_3 in
-        omega (arith, count_classes mine e0.run)
+        omega (arith, count_classes mine e0.run, of_class_left 2 to_1, of_class_left 3 to_2, of_class_left 4 to_3)
 
     level_picked : count named (level rule o at_best balance run).lines ≤ count mine run
     unfolding unbarred

@@ -1,6 +1,7 @@
 -- What is left of entries: it is shorter, counts no more, and keeps what does not hang on sizes. Assumes nothing.
 use Rattle.std.proofs.Common.{◌≡◌, ℕ, ◌-◌, ◌<◌, ◌≤◌, Bool, ltb, List, [], ◌∷◌, ◌++◌, length, filter, ap, arith}
 use Rattle.std.specs.List.{AllByRecursion}
+use Rattle.std.proofs.ByRecursion.{All-weaker}
 use Rattle.std.proofs.lemmas.Bool.{cond_both, ltb-true}
 use Rattle.sharing.specs.Totals.{one_if, count}
 use Rattle.rules.specs.declared.terms.Entry.{Entry}
@@ -54,11 +55,21 @@ length_left_of (gone g) = omega (arith, length_left_of g)
 length_left_of (same g) = omega (arith, length_left_of g)
 length_left_of (fewer n one le g) = omega (arith, length_left_of g)
 
+-- each entry stands in a relation to all behind it, as in ByTime and InRank
+abbrev pub EachToLater : (Entry → Entry → Type 0) → List Entry → Type 0
+EachToLater R [] = Unit {0}
+EachToLater R (e ∷ es) = AllByRecursion (R e) es × EachToLater R es
+
+-- a relation that does not look at sizes stays
+pub each_left_of : (R : Entry → Entry → Type 0) → ((n : ℕ) (e f : Entry) → R e f → R (resized n e) f × R e (resized n f)) → {es fs : List Entry} → LeftOf es fs → EachToLater R es → EachToLater R fs
+each_left_of R keeps none r = tt
+each_left_of R keeps (gone g) r = each_left_of R keeps g r.1
+each_left_of R keeps (same {e} g) r = (all_left_of (R e) (λ n f one le h. (keeps n e f h).1) g r.0, each_left_of R keeps g r.1)
+each_left_of R keeps (fewer {e} n one le g) r =
+    (all_left_of (R (resized n e)) (λ m f one' le' h. (keeps m (resized n e) f h).1) g (All-weaker (R e) (R (resized n e)) (λ f h. (keeps n e f h).0) _ r.0), each_left_of R keeps g r.1)
+
 pub by_time_left_of : {es fs : List Entry} → LeftOf es fs → ByTime es → ByTime fs
-by_time_left_of none s = s
-by_time_left_of (gone g) s = by_time_left_of g s.1
-by_time_left_of (same {e} g) s = (all_left_of (λ f. class_of e ≡ class_of f → e.time < f.time) (λ n f one le h. h) g s.0, by_time_left_of g s.1)
-by_time_left_of (fewer {e} n one le g) s = (all_left_of (λ f. class_of e ≡ class_of f → e.time < f.time) (λ m f one' le' h. h) g s.0, by_time_left_of g s.1)
+by_time_left_of g s = each_left_of (λ e f. class_of e ≡ class_of f → e.time < f.time) (λ n e f h. (h, h)) g s
 
 -- a test that does not look at sizes passes no more of what is left
 pub count_left : (q : Entry → Bool) → ((n : ℕ) (e : Entry) → q (resized n e) ≡ q e) → {es fs : List Entry} → LeftOf es fs → count q fs ≤ count q es

@@ -1,7 +1,9 @@
 pub mod AllPrices
 pub mod CallsKeep
 pub mod CapPrices
+pub mod Chain
 pub mod Collars
+pub mod Defaults
 pub mod Held
 pub mod InRank
 pub mod Leaves

@@ -18,7 +18,8 @@ use Rattle.rules.specs.Prices.{is_price}
 use Rattle.rules.specs.Ranks.{rank_of, rank_before}
 use Rattle.rules.specs.Sound.{GoodEntry, GoodRow, GoodSide, standing_with, Sound}
 use Rattle.rules.proofs.Held.{length_kept}
-use Rattle.rules.proofs.InRank.{all_left_of, in_rank_left, length_left_of, in_rank_inserted}
+use Rattle.rules.proofs.InRank.{in_rank_left, in_rank_inserted}
+use Rattle.rules.proofs.LeftOver.{all_left_of, length_left_of}
 use Rattle.rules.proofs.Leaves.{count_left}
 
 abbrev pub has_id : ℕ → Entry → Bool
@@ -27,6 +28,15 @@ has_id i e = eqb e.id i
 pub good_side : (s : Side) (m : Model) → Sound m → GoodSide m.opening.tick m.counters (places s m) s (entries s m)
 good_side Buy m sound = sound.bids
 good_side Sell m sound = sound.offers
+
+-- a side that has other entries
+pub entries_with : (s : Side) (es : List Entry) (m : Model) → entries s (with_entries s es m) ≡ es
+entries_with Buy es m = refl
+entries_with Sell es m = refl
+
+pub with_again : (s : Side) (es fs : List Entry) (m : Model) → with_entries s fs (with_entries s es m) ≡ with_entries s fs m
+with_again Buy es fs m = refl
+with_again Sell es fs m = refl
 
 -- how often an id stands once a side has other entries
 pub counts : (s : Side) (es : List Entry) (m : Model) (i : ℕ) → standing_with i (with_entries s es m) + count (has_id i) (entries s m) ≡ standing_with i m + count (has_id i) es

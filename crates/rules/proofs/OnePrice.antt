@@ -1,9 +1,8 @@
 -- One price under any lawful rule: the order or the price is exhausted. Assumes nothing.
-use Rattle.std.proofs.Common.{◌≡◌, ℕ, ◌+◌, ◌-◌, ◌*◌, ◌/◌, ◌<◌, ◌≤◌, min, Bool, true, false, not, ◌&&◌, ltb, leb, List, [], ◌∷◌, map, Some, None, filter, Option, sym, refl, ap, ◌∙◌, subst, inl, inr, ⊎_elim, mul-le-mul_right, mul_comm, add-mul, mul-le-mul_left, mul-add, arith}
+use Rattle.std.proofs.Common.{◌≡◌, ℕ, ◌+◌, ◌-◌, ◌*◌, ◌/◌, ◌<◌, ◌≤◌, min, Bool, true, false, cond, not, ◌&&◌, eqb, ltb, leb, List, [], ◌∷◌, map, Some, None, filter, Option, sym, refl, ap, ◌∙◌, subst, inl, inr, ⊎_elim, mul-le-mul_right, mul_comm, add-mul, mul-le-mul_left, mul-add, arith}
 use native.Mathlib.Nat.{div-le_of_le-mul}
 use Rattle.std.specs.List.{AllByRecursion}
 use Rattle.std.proofs.lemmas.Nat.{le-div}
-use Rattle.std.proofs.ByRecursion.{all_kept_by}
 use Rattle.std.proofs.lemmas.Bool.Decides.{nat_tests}
 use Rattle.std.proofs.lemmas.Bool.{and_parts, and_right, eqb-true, ne_eqb, cond_both, leb-true, cases_lt}
 use Rattle.sharing.specs.Rules.{by_time}
@@ -16,10 +15,11 @@ use Rattle.rules.specs.declared.terms.Entry.{Entry}
 use Rattle.rules.specs.Checks.{is_barred}
 use Rattle.rules.specs.Guarantee.{guaranteed, group_amount}
 use Rattle.rules.specs.Laws.{traded_in, taken_from, holding, Tradable, OnePrice}
-use Rattle.rules.specs.Level.{size_of, resized, Deal, step, in_class, quote_of, specialist, in_group, acts, for_group, makers, barred_line, unbarred, step_all, level}
+use Rattle.rules.specs.Level.{size_of, resized, Deal, step, in_class, quote_of, specialist, in_group, for_group, makers, barred_line, unbarred, level}
 use Rattle.rules.specs.Ranks.{class_of}
-use Rattle.rules.proofs.Held.{held, held_kept, by_time_kept, length_kept}
-use Rattle.rules.proofs.Steps.{balance_after, held_apart, held_within, traded_after, accounts_after, tradable_after}
+use Rattle.rules.proofs.Chain.{beside, deal_0, deal_1, deal_2, deal_3, makers_by}
+use Rattle.rules.proofs.Held.{Sized, held, held_kept}
+use Rattle.rules.proofs.Steps.{unbarred_tradable, barred_split, balance_after, held_apart, held_within, traded_after, accounts_after, tradable_after, class_tradable}
 
 -- a balance was offered to all of one class
 record Offers (class : ℕ) (d e : Deal) : Type 0 where
@@ -43,7 +43,7 @@ whole_class s k rule lawful d ok =
       leaves = λ j differ. held_apart s (in_class k) rule lawful d.balance d k one ok ok.small (in_class j) (λ n e. refl) (class_apart k j differ);
       lines = traded_after s (in_class k) rule lawful d.balance d k one ok ok.small;
       accounts = accounts_after s (in_class k) rule lawful d.balance d k one ok ok.small;
-      ok = tradable_after s (in_class k) rule lawful d.balance d k one ok ok.small;
+      ok = class_tradable s k rule lawful d ok;
     }
 
 -- the share of the group leaves no more than the others show
@@ -109,106 +109,100 @@ module _ (directed : Option ℕ) (es : List Entry) where
       by None = λ n e. refl
       by (Some f) = cond_both (ltb 0 (count (quote_of f) es)) (quote_of f) specialist (λ g. (n : ℕ) (e : Entry) → g (resized n e) ≡ g e) (λ _ n e. refl) (λ _ n e. refl)
 
--- steps 4 and 5: the group and then the others where the guarantee acts, else the whole class at once
-pub makers_by : (P : Deal → Type 0) (rule : Sharing) (at_best : Bool) (directed : Option ℕ) (d : Deal)
-    → (acts at_best directed d ≡ true → let fourth = step GuaranteedQuotes (in_group directed d.run) rule (for_group directed d) d in P (step OtherInterest (λ e. in_class 4 e && not (in_group directed d.run e)) rule fourth.balance fourth))
-    → (acts at_best directed d ≡ false → P (step OtherInterest (in_class 4) rule d.balance d))
-    → P (makers rule at_best directed d)
-unfolding makers
-makers_by P rule at_best directed d = cond_both (acts at_best directed d) _ _ P
+-- a group within the fourth class, and the others
+module _ (group : Entry → Bool) (inside : (e : Entry) → group e ≡ true → in_class 4 e ≡ true) where
+  pub group_one : (e : Entry) → group e ≡ true → class_of e ≡ 4
+  group_one e h = eqb-true (class_of e) 4 (inside e h)
 
-module _ (rule : Sharing) (lawful : Lawful rule) (at_best : Bool) (directed : Option ℕ) (d : Deal) (ok : Tradable d.balance d.run) where
-  abbrev group : Entry → Bool
-  group = in_group directed d.run
+  beside_fourth : (e : Entry) → beside group e ≡ true → in_class 4 e ≡ true
+  beside_fourth e h = (and_parts (in_class 4 e) (not (group e)) h).0
 
-  abbrev others : Entry → Bool
-  others e = in_class 4 e && not (in_group directed d.run e)
+  pub beside_one : (e : Entry) → beside group e ≡ true → class_of e ≡ 4
+  beside_one e h = eqb-true (class_of e) 4 (beside_fourth e h)
 
-  abbrev amount : ℕ
-  amount = for_group directed d
+  pub no_more : (es : List Entry) → total size_of (filter group es) ≤ total size_of (filter (in_class 4) es)
+  no_more es = omega (arith, held_kept group es, held_kept (in_class 4) es, held_mono group (in_class 4) inside es)
 
-  group_one : (e : Entry) → group e ≡ true → class_of e ≡ 4
-  group_one e h = eqb-true (class_of e) 4 (group_class directed d.run e h)
-
-  others_one : (e : Entry) → others e ≡ true → class_of e ≡ 4
-  others_one e h = eqb-true (class_of e) 4 (and_parts (in_class 4 e) (not (group e)) h).0
-
-  others_steady : (n : ℕ) (e : Entry) → others (resized n e) ≡ others e
-  others_steady n e = ap (λ b. in_class 4 e && not b) (group_steady directed d.run n e)
-
-  others_apart : (e : Entry) → group e ≡ true → others e ≡ false
-  others_apart e h = ap (λ b. in_class 4 e && not b) h ∙ and_right (in_class 4 e) false refl
-
-  module _ (some : 1 ≤ d.balance) (shown : 1 ≤ total size_of (filter group d.run)) where
+  module _ (rule : Sharing) (lawful : Lawful rule) (d : Deal) (ok : Tradable d.balance d.run) (some : 1 ≤ d.balance) (shown : 1 ≤ total size_of (filter group d.run))
+      (amount : ℕ) (is : amount ≡ group_amount d.balance (total size_of (filter group d.run)) (total size_of (filter (in_class 4) d.run))) where
     shown_is : total size_of (filter group d.run) ≡ held group d.run
     shown_is = held_kept group d.run
 
     all_is : total size_of (filter (in_class 4) d.run) ≡ held (in_class 4) d.run
     all_is = held_kept (in_class 4) d.run
 
-    no_more : total size_of (filter group d.run) ≤ total size_of (filter (in_class 4) d.run)
-    no_more = omega (arith, shown_is, all_is, held_mono group (in_class 4) (group_class directed d.run) d.run)
-
     in_all : amount + min (d.balance - amount) (total size_of (filter (in_class 4) d.run) - total size_of (filter group d.run)) ≡ min d.balance (total size_of (filter (in_class 4) d.run))
-    in_all = group_and_others d.balance (total size_of (filter group d.run)) (total size_of (filter (in_class 4) d.run)) some shown no_more
+    in_all = (λ t. is t + min (d.balance - is t) (total size_of (filter (in_class 4) d.run) - total size_of (filter group d.run)))
+        ∙ group_and_others d.balance (total size_of (filter group d.run)) (total size_of (filter (in_class 4) d.run)) some shown (no_more d.run)
+
+    pub amount_within : amount ≤ d.balance
+    amount_within = omega (arith, in_all)
 
     amount_shown : amount ≤ total size_of (filter group d.run)
-    amount_shown = omega arith
+    amount_shown = omega (arith, is)
 
-    small : amount < 100000
-    small = omega (arith, in_all, ok.small)
+    pub amount_small : amount < 100000
+    amount_small = omega (arith, amount_within, ok.small)
 
     -- step 4
     abbrev fourth : Deal
     fourth = step GuaranteedQuotes group rule amount d
 
-    fourth_ok : Tradable fourth.balance fourth.run
-    fourth_ok = tradable_after GuaranteedQuotes group rule lawful amount d 4 group_one ok small
+    pub fourth_ok : Tradable fourth.balance fourth.run
+    fourth_ok = tradable_after GuaranteedQuotes group rule lawful amount d 4 group_one ok amount_small
 
     fourth_pays : fourth.balance ≡ d.balance - amount
-    fourth_pays = balance_after GuaranteedQuotes group rule lawful amount d 4 group_one ok small ∙ omega (arith, amount_shown, shown_is)
+    fourth_pays = balance_after GuaranteedQuotes group rule lawful amount d 4 group_one ok amount_small ∙ omega (arith, amount_shown, shown_is)
 
     fourth_takes : held (in_class 4) fourth.run + amount ≡ held (in_class 4) d.run
-    fourth_takes = omega (arith, held_within GuaranteedQuotes group rule lawful amount d 4 group_one ok small (in_class 4) (λ n e. refl) (group_class directed d.run), amount_shown, shown_is)
+    fourth_takes = omega (arith, held_within GuaranteedQuotes group rule lawful amount d 4 group_one ok amount_small (in_class 4) (λ n e. refl) inside, amount_shown, shown_is)
 
-    fourth_others : held others fourth.run ≡ held (in_class 4) d.run - held group d.run
-    fourth_others = omega (arith, held_apart GuaranteedQuotes group rule lawful amount d 4 group_one ok small others others_steady others_apart, held_split (in_class 4) group (group_class directed d.run) d.run)
+    -- step 5, where the group is the same whatever its entries hold
+    module _ (steady : (n : ℕ) (e : Entry) → group (resized n e) ≡ group e) where
+      others_steady : (n : ℕ) (e : Entry) → beside group (resized n e) ≡ beside group e
+      others_steady n e = ap (λ b. in_class 4 e && not b) (steady n e)
 
-    -- step 5
-    abbrev fifth : Deal
-    fifth = step OtherInterest others rule fourth.balance fourth
+      others_apart : (e : Entry) → group e ≡ true → beside group e ≡ false
+      others_apart e h = ap (λ b. in_class 4 e && not b) h ∙ and_right (in_class 4 e) false refl
 
-    fifth_gives : amount + min fourth.balance (held others fourth.run) ≡ min d.balance (held (in_class 4) d.run)
-    fifth_gives = omega (arith, in_all, fourth_pays, fourth_others, shown_is, all_is)
+      fourth_others : held (beside group) fourth.run ≡ held (in_class 4) d.run - held group d.run
+      fourth_others = omega (arith, held_apart GuaranteedQuotes group rule lawful amount d 4 group_one ok amount_small (beside group) others_steady others_apart, held_split (in_class 4) group inside d.run)
 
-    guaranteed_offer : Offers 4 d fifth
-    guaranteed_offer = record {
-      pays = omega (arith, balance_after OtherInterest others rule lawful fourth.balance fourth 4 others_one fourth_ok fourth_ok.small, fourth_pays, fifth_gives);
-      takes = omega (arith, held_within OtherInterest others rule lawful fourth.balance fourth 4 others_one fourth_ok fourth_ok.small (in_class 4) (λ n e. refl) (λ e h. (and_parts (in_class 4 e) (not (group e)) h).0), fourth_takes, fifth_gives);
-      leaves = λ j differ.
-          held_apart OtherInterest others rule lawful fourth.balance fourth 4 others_one fourth_ok fourth_ok.small (in_class j) (λ n e. refl) (λ e h. class_apart 4 j differ e (and_parts (in_class 4 e) (not (group e)) h).0)
-          ∙ held_apart GuaranteedQuotes group rule lawful amount d 4 group_one ok small (in_class j) (λ n e. refl) (λ e h. class_apart 4 j differ e (group_class directed d.run e h));
-      lines = omega (arith, traded_after OtherInterest others rule lawful fourth.balance fourth 4 others_one fourth_ok fourth_ok.small, traded_after GuaranteedQuotes group rule lawful amount d 4 group_one ok small, fifth_gives, amount_shown, shown_is);
-      accounts = λ i. accounts_after OtherInterest others rule lawful fourth.balance fourth 4 others_one fourth_ok fourth_ok.small i ∙ accounts_after GuaranteedQuotes group rule lawful amount d 4 group_one ok small i;
-      ok = tradable_after OtherInterest others rule lawful fourth.balance fourth 4 others_one fourth_ok fourth_ok.small;
-    }
+      abbrev fifth : Deal
+      fifth = step OtherInterest (beside group) rule fourth.balance fourth
 
-  -- steps 4 and 5 offer the balance to the fourth class
-  makers_offer : Offers 4 d (makers rule at_best directed d)
-  makers_offer =
-      makers_by (Offers 4 d) rule at_best directed d
-      (λ yes.
-      let meets = (and_parts at_best _ yes).1 in
-      let both = and_parts (leb 1 d.balance) _ meets in
-      guaranteed_offer (leb-true 1 d.balance both.0) (leb-true 1 (total size_of (filter group d.run)) both.1))
-      (λ _. whole_class OtherInterest 4 rule lawful d ok)
+      fifth_gives : amount + min fourth.balance (held (beside group) fourth.run) ≡ min d.balance (held (in_class 4) d.run)
+      fifth_gives = omega (arith, in_all, fourth_pays, fourth_others, shown_is, all_is)
+
+      guaranteed_offer : Offers 4 d fifth
+      guaranteed_offer = record {
+        pays = omega (arith, balance_after OtherInterest (beside group) rule lawful fourth.balance fourth 4 beside_one fourth_ok fourth_ok.small, fourth_pays, fifth_gives);
+        takes = omega (arith, held_within OtherInterest (beside group) rule lawful fourth.balance fourth 4 beside_one fourth_ok fourth_ok.small (in_class 4) (λ n e. refl) beside_fourth, fourth_takes, fifth_gives);
+        leaves = λ j differ.
+            held_apart OtherInterest (beside group) rule lawful fourth.balance fourth 4 beside_one fourth_ok fourth_ok.small (in_class j) (λ n e. refl) (λ e h. class_apart 4 j differ e (beside_fourth e h))
+            ∙ held_apart GuaranteedQuotes group rule lawful amount d 4 group_one ok amount_small (in_class j) (λ n e. refl) (λ e h. class_apart 4 j differ e (inside e h));
+        lines = omega (arith, traded_after OtherInterest (beside group) rule lawful fourth.balance fourth 4 beside_one fourth_ok fourth_ok.small, traded_after GuaranteedQuotes group rule lawful amount d 4 group_one ok amount_small, fifth_gives, amount_shown, shown_is);
+        accounts = λ i. accounts_after OtherInterest (beside group) rule lawful fourth.balance fourth 4 beside_one fourth_ok fourth_ok.small i ∙ accounts_after GuaranteedQuotes group rule lawful amount d 4 group_one ok amount_small i;
+        ok = tradable_after OtherInterest (beside group) rule lawful fourth.balance fourth 4 beside_one fourth_ok fourth_ok.small;
+      }
+
+-- steps 4 and 5 offer the balance to the fourth class
+makers_offer : (rule : Sharing) → Lawful rule → (at_best : Bool) (directed : Option ℕ) (d : Deal) → Tradable d.balance d.run → Offers 4 d (makers rule at_best directed d)
+makers_offer rule lawful at_best directed d ok =
+    makers_by (Offers 4 d) rule at_best directed d
+    (λ yes.
+    let group = in_group directed d.run in
+    let meets = (and_parts at_best _ yes).1 in
+    let both = and_parts (leb 1 d.balance) _ meets in
+    guaranteed_offer group (group_class directed d.run) rule lawful d ok (leb-true 1 d.balance both.0) (leb-true 1 (total size_of (filter group d.run)) both.1) (for_group directed d) refl (group_steady directed d.run))
+    (λ _. whole_class OtherInterest 4 rule lawful d ok)
 
 -- every entry is of one of four classes
 by_class : (es : List Entry) → total size_of es ≡ ((held (in_class 1) es + held (in_class 2) es) + held (in_class 3) es) + held (in_class 4) es
 by_class [] = refl
 by_class (e ∷ es) = grind (arith, nat_tests, by_class es)
 
-nothing_left : (es : List Entry) → AllByRecursion (λ e. (1 ≤ e.size) × (e.size ≤ 99999)) es → total size_of es ≡ 0 → es ≡ []
+nothing_left : (es : List Entry) → AllByRecursion Sized es → total size_of es ≡ 0 → es ≡ []
 nothing_left [] sized none = refl
 nothing_left (e ∷ es) sized none = absurd (omega (arith, sized.0.0))
 
@@ -261,30 +255,20 @@ module _ (d0 d1 d2 d3 d4 : Deal) (s1 : Offers 1 d0 d1) (s2 : Offers 2 d1 d2) (s3
   left : total size_of d4.run + min d0.balance (total size_of d0.run) ≡ total size_of d0.run
   left = omega (arith, by_class d4.run, by_class d0.run, gave_4, left_1, left_2, left_3, s1.takes, s2.takes, s3.takes, s4.takes, second, third, last)
 
--- barred entries are cancelled whole
-barred_accounts : (barred : Entry → Bool) (i : ℕ) (es : List Entry) → holding i (filter (λ e. not (barred e)) es) + total (taken_from i) (map barred_line (filter barred es)) ≡ holding i es
-barred_accounts barred i [] = refl
-barred_accounts barred i (e ∷ es) = grind (arith, nat_tests, barred_accounts barred i es)
-
 pub one_price : OnePrice
 unfolding level unbarred
 one_price rule lawful o at_best balance run ok =
     let free : Entry → Bool = λ e. not (is_barred o.firm o.own_firm_mark e) in
-    let d0 = unbarred o balance run in
-    let ok0 : Tradable d0.balance d0.run = record {
-      few = omega (arith, length_kept free run, ok.few);
-      small = ok.small;
-      sized = all_kept_by free (λ e. (1 ≤ e.size) × (e.size ≤ 99999)) run ok.sized;
-      timed = by_time_kept free run ok.timed;
-    } in
-    let d1 = step_all CustomerMarketOrders (in_class 1) by_time d0 in
-    let s1 = whole_class CustomerMarketOrders 1 by_time by_time_lawful d0 ok0 in
-    let d2 = step_all OtherMarketOrders (in_class 2) rule d1 in
-    let s2 = whole_class OtherMarketOrders 2 rule lawful d1 s1.ok in
-    let d3 = step_all CustomerLimitOrders (in_class 3) by_time d2 in
-    let s3 = whole_class CustomerLimitOrders 3 by_time by_time_lawful d2 s2.ok in
+    let d0 = deal_0 rule o balance run in
+    let d1 = deal_1 rule o balance run in
+    let d2 = deal_2 rule o balance run in
+    let d3 = deal_3 rule o balance run in
     let d4 = makers rule at_best o.directed d3 in
+    let s1 = whole_class CustomerMarketOrders 1 by_time by_time_lawful d0 (unbarred_tradable o balance run ok) in
+    let s2 = whole_class OtherMarketOrders 2 rule lawful d1 s1.ok in
+    let s3 = whole_class CustomerLimitOrders 3 by_time by_time_lawful d2 s2.ok in
     let s4 = makers_offer rule lawful at_best o.directed d3 s3.ok in
+    let barred_accounts : (i : ℕ) → holding i d0.run + total (taken_from i) d0.lines ≡ holding i run = λ i. omega (arith, barred_split (taken_from i) (λ e. cond (eqb e.id i) e.size 0) (λ e. refl) (is_barred o.firm o.own_firm_mark) run) in
     let none = barred_lines (filter (is_barred o.firm o.own_firm_mark) run) in
     let lines = given d0 d1 d2 d3 d4 s1 s2 s3 s4 in
     let balances = paid d0 d1 d2 d3 d4 s1 s2 s3 s4 in
@@ -292,7 +276,7 @@ one_price rule lawful o at_best balance run ok =
     record {
       adds_up = omega (arith, none, lines);
       pays = omega (arith, none, lines, balances);
-      accounts = λ i. s4.accounts i ∙ s3.accounts i ∙ s2.accounts i ∙ s1.accounts i ∙ barred_accounts (is_barred o.firm o.own_firm_mark) i run;
+      accounts = λ i. s4.accounts i ∙ s3.accounts i ∙ s2.accounts i ∙ s1.accounts i ∙ barred_accounts i;
       ends = ⊎_elim
           (λ fewer. inl (omega (arith, balances)))
           (λ enough. inr (nothing_left d4.run s4.ok.sized (omega (arith, rest))))

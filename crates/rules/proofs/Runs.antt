@@ -4,6 +4,7 @@ use Rattle.std.specs.List.{AllByRecursion}
 use Rattle.std.proofs.ByRecursion.{All-weaker}
 use Rattle.std.proofs.lemmas.Bool.{cond_both, eqb-true}
 use Rattle.std.proofs.lemmas.Bool.Decides.{nat_tests}
+use Rattle.ranked.proofs.Lists.{all_both}
 use Rattle.rules.specs.declared.terms.Entry.{Entry}
 use Rattle.rules.specs.declared.terms.Side.{Side}
 use Rattle.rules.specs.declared.terms.Side.TheVariants.{Buy, Sell}
@@ -13,6 +14,7 @@ use Rattle.rules.specs.Ranks.{class_of, rank_of, rank_before}
 use Rattle.rules.specs.Sound.{InRank, GoodEntry, Sound, AlwaysTradable}
 use Rattle.rules.specs.Walk.{into_runs, runs}
 use Rattle.rules.proofs.Moves.{good_side}
+use Rattle.rules.proofs.Held.{Sized}
 
 -- of two entries at one price and of one class the first in rank is the earlier
 pub earlier_of : (s : Side) (e f : Entry) → rank_before s (rank_of e) (rank_of f) ≡ true → e.price ≡ f.price → class_of e ≡ class_of f → e.time < f.time
@@ -50,10 +52,6 @@ module _ (tick : ℕ) (c : Counters) (s : Side) where
   alone : (n : ℕ) (e : Entry) → GoodEntry tick c e → Fine (n + 1) (e ∷ [])
   alone n e good = (record { good = (good, tt); timed = (tt, tt); short = omega arith }, tt)
 
-  both : (e : Entry) (fs : List Entry) (p : ℕ) → e.price ≡ p → AllByRecursion (λ g. g.price ≡ p) fs → AllByRecursion (λ g. rank_before s (rank_of e) (rank_of g) ≡ true) fs → AllByRecursion (λ g. class_of e ≡ class_of g → e.time < g.time) fs
-  both e [] p price level ranked = tt
-  both e (g ∷ gs) p price level ranked = (earlier_of s e g ranked.0 (price ∙ sym level.0), both e gs p price level.1 ranked.1)
-
   into_fine : (n : ℕ) (e : Entry) (rs : List (List Entry)) → GoodEntry tick c e → AllByRecursion (AllByRecursion (λ g. rank_before s (rank_of e) (rank_of g) ≡ true)) rs → AllByRecursion (Fine n) rs → AllByRecursion (Fine (n + 1)) (into_runs e rs)
   into_fine n e [] good ranked fine = (alone n e good, tt)
   into_fine n e ([] ∷ rs) good ranked fine = (alone n e good, longer n rs fine.1)
@@ -66,7 +64,11 @@ module _ (tick : ℕ) (c : Counters) (s : Side) where
         (
           record {
             good = (good, here.0.good);
-            timed = (both e (f ∷ fs) f.price price level_all ranked.0, here.0.timed);
+            timed = (
+              all_both (λ g. g.price ≡ f.price) (λ g. rank_before s (rank_of e) (rank_of g) ≡ true) (λ g. class_of e ≡ class_of g → e.time < g.time)
+                  (λ g at before. earlier_of s e g before (price ∙ sym at)) (f ∷ fs) level_all ranked.0,
+              here.0.timed,
+            );
             short = omega (arith, here.0.short);
           },
           All-weaker (λ g. g.price ≡ f.price) (λ g. g.price ≡ e.price) (λ g h. h ∙ sym price) (f ∷ fs) level_all,
@@ -94,7 +96,7 @@ always_tradable m sound s balance small =
     (λ r h. record {
       few = omega (arith, h.0.short, places_few s m sound);
       small = small;
-      sized = All-weaker (GoodEntry tick m.counters) (λ e. (1 ≤ e.size) × (e.size ≤ 99999)) (λ e k. (k.some, k.size)) r h.0.good;
+      sized = All-weaker (GoodEntry tick m.counters) Sized (λ e k. (k.some, k.size)) r h.0.good;
       timed = h.0.timed;
     })
     (runs (entries s m)) (runs_fine tick m.counters s (entries s m) g.ranked g.good)

@@ -23,6 +23,7 @@ impl Term {
 
 impl Entry {
     // An order of this firm, with or without the own-firm mark, may not trade with the entry.
+    // Stays asked of firm and mark: the definition asks the same, since the laws over histories know an order by what tapes tell of it.
     pub fn is_barred(&self, firm: u16, mark: bool) -> bool
         ensures { result ≡ is_barred firm mark self.now }
     {

@@ -6,6 +6,7 @@ use crate::guarantee::for_the_group;
 use crate::terms::Side;
 
 // A buyer's collars at 100 and 201, a selling Market Order's at 20 where the tick is 1, and two guarantees.
+#[tactic(auto, using(crate::proofs::Worked::worked))]
 pub fn worked_examples() -> [u32; 5]
     ensures examples { Examples }
     ensures value { result ≡ 120 ∷ 231 ∷ 1 ∷ 40 ∷ 1 ∷ [] }

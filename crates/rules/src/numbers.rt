@@ -30,6 +30,8 @@ pub enum Refusal {
 }
 
 impl Refusal {
+    // Stays a method of its own, here and in Cause, Step and Class: under a trait, or as `From` for u8, each would still write
+    // this body and its own law, and the trait would add a name, or `u8::from` say less than `number` at a call.
     pub fn number(self) -> u8
         ensures { result ≡ refusal_number self }
     {

@@ -1,6 +1,7 @@
 // The tape: what a call did, line by line.
 ghost use Rattle.std.specs.Prelude.{◌≡◌};
 ghost use Rattle.rules.specs.Numbers.{step_number};
+ghost use Rattle.rules.specs.declared.tape.Line.TheVariants.{Filled};
 
 use crate::numbers::Cause;
 
@@ -53,4 +54,13 @@ pub enum Line {
         firm: u16,
         size: u32,
     },
+}
+
+// What a host may fill a tape with before a call. Stays written out: `derive` gives only a variant without fields for a default.
+impl Default for Line {
+    fn default() -> Line
+        ensures { result ≡ Filled 0 0 }
+    {
+        Line::Filled { id: 0, firm: 0 }
+    }
 }

@@ -49,8 +49,8 @@ pub enum Term {
     ImmediateOrCancel,
 }
 
-// An order as it is entered. A Market Order has no price; a least size of 0 asks for nothing.
-#[derive(Clone, Copy, Debug, PartialEq, Eq)]
+// An order as it is entered. A Market Order has no price; a least size of 0 asks for nothing, as all that the default has.
+#[derive(Clone, Copy, Debug, Default, PartialEq, Eq)]
 pub struct Order {
     pub id: u64,
     pub firm: u16,
@@ -59,7 +59,7 @@ pub struct Order {
     pub term: Term,
     pub price: Option<u32>,
     pub size: u32,
-    // Stays a number: gateways fill it, and 0 is the rules' own word for no least size.
+    // Stays a number, where `price` and `directed` are options: 0 is the rules' own word for no least size, and gateways fill it so.
     pub least: u32,
     pub directed: Option<u16>,
     pub own_firm_mark: bool,

@@ -48,7 +48,11 @@ total_allotted [] (c ∷ cs) long = absurd (omega arith)
 total_allotted (n ∷ ns) [] long = absurd (omega arith)
 total_allotted (n ∷ ns) (c ∷ cs) long = ap (λ k. n + k) (total_allotted ns cs (omega arith))
 
+-- each claim has its allotment
+pub as_many : (s : Sharing) → Lawful s → (amount : ℕ) (cs : List Claim) → Shareable amount cs → length (s.allotments amount cs) ≡ length cs
+as_many s laws amount cs ok = length_all_zip ◌≤◌ (s.allotments amount cs) (map size_of cs) (laws.within amount cs ok) ∙ length-map cs size_of
+
 pub shared_total : (s : Sharing) → Lawful s → (amount : ℕ) (cs : List Claim) → Shareable amount cs → total allotment_of (allotted (s.allotments amount cs) cs) ≡ min amount (total size_of cs)
 shared_total s laws amount cs ok =
-    total_allotted (s.allotments amount cs) cs (length_all_zip ◌≤◌ (s.allotments amount cs) (map size_of cs) (laws.within amount cs ok) ∙ length-map cs size_of)
+    total_allotted (s.allotments amount cs) cs (as_many s laws amount cs ok)
     ∙ laws.adds_up amount cs ok

@@ -6,7 +6,8 @@ ghost use Rattle.sharing.specs.Totals.{total};
 
 use crate::claims::Claim;
 
-// Stays asked of amount and claims: a struct of both would have to hold claims that others lend, and each rule reads them apart.
+// Stays asked of amount and claims side by side: venues write rules by this trait, `share` works on the claims in place, and `floor`
+// only reads them, so one struct would not serve both.
 pub trait Rule {
     // For an amount and claims, the allotments and the floors.
     ghost meaning: { Self → Sharing };

@@ -59,10 +59,7 @@ fn show_cap(rt: &impl Print, side: Side, price: Option<u32>, reference: u32) -> 
         term: Term::Day,
         price,
         size: 1,
-        least: 0,
-        directed: None,
-        own_firm_mark: false,
-        may_route: false,
+        ..Order::default()
     };
     // Stays a match: a type of its own around a side would only wrap these two arms.
     let name = match side {

@@ -6,6 +6,8 @@ use Rattle.rules.specs.Level.{size_of}
 use Rattle.matching.proofs.Shown.{reachable, available_is, available_fits}
 use Rattle.matching.proofs.prices.available.Goals as goal
 
+-- Stays written in both answers, what the chain yields: a lemma above them was tried; its type has to name the chain's own steps,
+-- and they were not determined.
 pub sum-requires-clause-fits : goal.sum-requires-clause-fits
 sum-requires-clause-fits c =
     fits_by_from_yields_list size_of (filter (reachable c.args.order.now c.args.away) c.args.entries.now) c.map.result _

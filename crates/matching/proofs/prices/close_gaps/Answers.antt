@@ -2,7 +2,7 @@ use Rattle.std.proofs.Common.{get_or, arith}
 use Rattle.std.proofs.lemmas.List.Filters.{FiltersInPlace-more_no, FiltersInPlace-more_set}
 use Rattle.std.proofs.lemmas.List.{get_or_default}
 use Rattle.std.proofs.lemmas.Bool.{lt-ltb, le-ltb}
-use Rattle.matching.proofs.Runs.{no_entry}
+use Rattle.rules.proofs.Defaults.{no_entry}
 use Rattle.matching.proofs.prices.close_gaps.Goals as goal
 use Rattle.matching.proofs.prices.close_gaps.Goals.{then-e-gt0, else-e-gt0}
 

@@ -5,7 +5,8 @@ use Rattle.std.proofs.lemmas.Iterator.Consumers.{YieldsList-at, count_from_yield
 use Rattle.std.proofs.lemmas.Iterator.Search.{YieldsList-from_take_while}
 use Rattle.std.proofs.lemmas.List.Folds.{length-prefix_len}
 use Rattle.rules.specs.Walk.{runs}
-use Rattle.matching.proofs.Runs.{no_entry, level, first_run}
+use Rattle.rules.proofs.Defaults.{no_entry}
+use Rattle.matching.proofs.Runs.{level, first_run}
 use Rattle.matching.proofs.prices.run_length.Goals as goal
 
 pub returns-clause-run : goal.returns-clause-run

@@ -12,22 +12,24 @@ loop-from-preserved g c =
     let l = c.loop-from in
     let all = take_all (length l.entries - l.from) (drop l.from l.entries) (omega (arith, length-drop l.from l.entries)) in
     let run = c.run_length.ensures in
-    walking_more l.invariant c.requires.tape run.some _ all run.within run.run c.if-balance-gt0.true c.within_reach.ensures c.if-within_reach.true (c.eq-at_best.ensures ∙ best_is c.args.national _) c.price-balance.ensures
+    walking_more l.invariant run.some _ all run.within run.run c.if-balance-gt0.true c.within_reach.ensures c.if-within_reach.true (c.eq-at_best.ensures ∙ best_is c.args.national _) c.requires.room.tape c.price-balance.ensures
 
 pub returns : goal.returns
 returns g c =
     let l = c.loop-from in
-    let stops : Ends l.invariant c.requires.tape = elim c.loop-from-test.branch [
-      | then-loop-from-test+then-balance-gt0+else-within_reach w ↦ stops_beyond l.invariant c.requires.tape w.loop-from-test.true w.within_reach.ensures w.if-within_reach.false
-      | then-loop-from-test+else-balance-gt0 w ↦ stops_spent l.invariant c.requires.tape w.if-balance-gt0.false
-      | else-loop-from-test w ↦ stops_last l.invariant c.requires.tape w.loop-from-test.false
+    let stops : Ends l.invariant = elim c.loop-from-test.branch [
+      | then-loop-from-test+then-balance-gt0+else-within_reach w ↦ stops_beyond l.invariant w.loop-from-test.true w.within_reach.ensures w.if-within_reach.false
+      | then-loop-from-test+else-balance-gt0 w ↦ stops_spent l.invariant w.if-balance-gt0.false
+      | else-loop-from-test w ↦ stops_last l.invariant w.loop-from-test.false
     ] in
-    let run = done_run l.invariant c.requires.tape stops in
+    let run = done_run l.invariant stops in
     let closed = c.close_gaps-left.ensures in
     record {
-      balance = done_balance l.invariant c.requires.tape stops;
-      left = closed.value ∙ ap length run;
-      entries = closed.entries ∙ run;
-      places = closed.length ∙ l.invariant.whole;
-      writes = done_writes l.invariant c.requires.tape stops;
+      leaves = record {
+        balance = done_balance l.invariant stops;
+        left = closed.value ∙ ap length run;
+        entries = closed.entries ∙ run;
+        writes = done_writes l.invariant stops;
+      };
+      places = c.close_gaps-left.auto.entries ∙ l.invariant.whole;
     }

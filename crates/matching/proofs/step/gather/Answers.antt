@@ -24,5 +24,4 @@ returns c =
     record {
       value = c.loop-e.invariant.value ∙ ap length all;
       claims = c.loop-e.invariant.claims ∙ ap (map claim_of) all;
-      length = c.loop-e.auto.sheet;
     }

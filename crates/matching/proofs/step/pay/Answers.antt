@@ -1,27 +1,23 @@
-use Rattle.std.proofs.Common.{◌+◌, ◌≤◌, map, length, take, sym, ap, ◌∙◌, subst, arith}
-use Rattle.std.specs.List.{AllZip}
+use Rattle.std.proofs.Common.{◌+◌, ◌≤◌, length, sym, ap, ◌∙◌, arith}
 use Rattle.std.proofs.lemmas.List.{set-get_or}
-use Rattle.sharing.specs.Claims.{allotment_of}
-use Rattle.rules.specs.Level.{size_of}
 use Rattle.matching.specs.Parts.{is_live, part_test, step_for, takes_part}
-use Rattle.matching.specs.Tapes.{Writes}
 use Rattle.matching.proofs.Paid.{numbers, lines_of, left_live, lines_live, paid_none, paid_run, paid_writes, turn_other, turn_within, turn_room, turn_nothing, turn_some}
-use Rattle.matching.proofs.Runs.{no_entry}
+use Rattle.rules.proofs.Defaults.{no_entry}
 use Rattle.matching.proofs.Shown.{kept_twice}
 use Rattle.matching.proofs.step.pay.Goals as goal
 use Rattle.matching.proofs.step.pay.Goals.{Start, then-takes+then-size-gt0, then-takes+else-size-gt0, else-takes}
 
 -- the tape has room for the fills, also where entries that are gone are looked at
 room : (c : Start) → c.args.lent.now.lines + length (lines_of (step_for c.args.part) (takes_part (part_test c.args.part)) (numbers c.args.lent.now) c.args.run.now) ≤ length c.args.lent.now.tape.now
-room c = omega (arith, c.requires.room, ap length (lines_live (step_for c.args.part) (part_test c.args.part) (numbers c.args.lent.now) c.args.run.now))
+room c = omega (arith, c.requires.room.tape, ap length (lines_live (step_for c.args.part) (part_test c.args.part) (numbers c.args.lent.now) c.args.run.now))
 
 pub loop-e-init : goal.loop-e-init
 loop-e-init c =
     let t = part_test c.args.part in
     let same = kept_twice is_live t c.args.run.now in
     paid_none (step_for c.args.part) (takes_part t) c.args.run.now c.args.lent.now
-    (subst (λ l. length l ≤ length c.args.lent.now.sheet.now) same c.requires.claims)
-    (subst (λ l. AllZip ◌≤◌ (map allotment_of (take (length l) c.args.lent.now.sheet.now)) (map size_of l)) same c.requires.within)
+    (rw same at c.requires.room.sheet)
+    (rw same at c.requires.within)
 
 -- an entry that takes part has a claim
 pub write-requires : goal.write-requires
@@ -52,6 +48,5 @@ returns c =
     let lent = c.args.lent.now in
     record {
       run = paid_run c.loop-e.invariant (omega arith) ∙ left_live t (numbers lent) c.args.run.now;
-      places = c.loop-e.auto.run;
-      writes = subst (λ l. Writes l lent c.loop-e.lent) (lines_live (step_for c.args.part) t (numbers lent) c.args.run.now) (paid_writes c.loop-e.invariant (omega arith));
+      writes = rw (lines_live (step_for c.args.part) t (numbers lent) c.args.run.now) at (paid_writes c.loop-e.invariant (omega arith));
     }

@@ -1,6 +1,5 @@
-use Rattle.std.proofs.Common.{length, ap, ◌∙◌, subst, arith}
+use Rattle.std.proofs.Common.{length, ap, ◌∙◌, arith}
 use Rattle.matching.specs.Parts.{part_test, step_for, live}
-use Rattle.matching.specs.Tapes.{Writes}
 use Rattle.matching.proofs.Stepped.{FromSheet, length_part, from_sheet}
 use Rattle.matching.proofs.step.step.Given as given
 use Rattle.matching.proofs.step.step.Goals as goal
@@ -16,9 +15,11 @@ pub pay-requires : goal.pay-requires
 pay-requires g c =
     let sheet = shared g (goal.at.pay-requires g c).After-share-given in
     record {
-      claims = omega (arith, c.share-given.ensures.length, c.requires.sheet, length_part (part_test c.args.part) c.args.run.now);
+      room = record {
+        sheet = omega (arith, c.share-given.auto.sheet, c.requires.room.sheet, length_part (part_test c.args.part) c.args.run.now);
+        tape = omega (arith, c.requires.room.tape, ap length sheet.lines);
+      };
       within = sheet.within;
-      room = omega (arith, c.requires.room, ap length sheet.lines);
     }
 
 pub returns : goal.returns
@@ -27,7 +28,6 @@ returns g c =
     record {
       left = sheet.left;
       entries = rw sheet.run at c.pay.ensures.run;
-      places = c.pay.ensures.places;
-      writes = subst (λ l. Writes l c.args.lent.now c.pay.new.lent) sheet.lines
-          (let w = c.pay.ensures.writes in record { tape = w.tape; lines = w.lines; sheet = w.sheet ∙ c.share-given.ensures.length; tape_lender = w.tape_lender; sheet_lender = w.sheet_lender });
+      places = c.pay.auto.run;
+      writes = let w = c.pay.ensures.writes in rw (← sheet.lines) (record { tape = w.tape; lines = w.lines; sheet = w.sheet ∙ c.share-given.auto.sheet; tape_lender = w.tape_lender; sheet_lender = w.sheet_lender });
     }
