@@ -1,13 +1,11 @@
 // One side of the book: its entries in rank, in places that the host lends, and the away price.
 ghost use Rattle.std.specs.Prelude.{◌≡◌, ◌<◌, ◌≤◌, [], length, take, slice_index_or, slice_set, nat_le, None};
-ghost use Rattle.std.specs.List.{AllByRecursion, remove};
-ghost use Rattle.matching.specs.Tapes.{Room, Writes};
-ghost use Rattle.matching.specs.Walks.{walked, Leaves};
-ghost use Rattle.rules.specs.Laws.{Tradable};
+ghost use Rattle.std.specs.List.{remove};
+ghost use Rattle.matching.specs.Tapes.{Writes};
+ghost use Rattle.matching.specs.Walks.{walked, MayWalk, Leaves};
 ghost use Rattle.rules.specs.Model as book;
 ghost use Rattle.rules.specs.Model.{ranked_in};
 ghost use Rattle.rules.specs.Ranks.{rank_of};
-ghost use Rattle.rules.specs.Walk.{runs};
 ghost use Rattle.book.specs.Sides.{nation, with_list};
 
 use matching::{Lent, Walked, walk};
@@ -62,8 +60,7 @@ fn walk_first<R: Rule>(
     lent: &mut Lent<'_>,
 ) -> Walked
     requires within { len ≤ length places.old }
-    requires tradable { AllByRecursion (Tradable order.now.size) (runs (take len places.old)) }
-    requires room { Room len len lent.old }
+    requires may_walk { MayWalk order.now (take len places.old) lent.old }
     ensures { Leaves (walked (R.meaning rule.now) order.now national away (take len places.old)) result places.new lent.old lent.new }
 {
     walk(rule, order, national, away, &mut places[..len], lent)
@@ -143,8 +140,7 @@ impl BookSide<'_> {
 
     // An order of the other side trades with this one; answers its balance.
     pub(crate) fn meet<R: Rule>(&mut self, rule: &R, order: &Routed, lent: &mut Lent<'_>) -> u32
-        requires tradable { AllByRecursion (Tradable order.now.size) (runs self.old.entries) }
-        requires room { Room (length self.old.entries) (length self.old.entries) lent.old }
+        requires { MayWalk order.now self.old.entries lent.old }
         ensures after { self.new ≡ with_list (walked (R.meaning rule.now) order.now (nation self.old) self.old.away self.old.entries).run self.old }
         ensures balance { result ≡ (walked (R.meaning rule.now) order.now (nation self.old) self.old.away self.old.entries).balance }
         ensures writes { Writes (walked (R.meaning rule.now) order.now (nation self.old) self.old.away self.old.entries).lines lent.old lent.new }

@@ -1,7 +1,6 @@
 // An entry: its checks, its cap, its least size, and then it trades.
 ghost use Rattle.std.specs.Prelude.{◌≡◌, false, Some};
 ghost use Rattle.std.specs.List.{AllByRecursion};
-ghost use Rattle.matching.specs.Tapes.{Writes};
 ghost use Rattle.rules.specs.Calls.{reference, entry_checks, setting_out, entry_of};
 ghost use Rattle.rules.specs.Caps.{cap_of};
 ghost use Rattle.rules.specs.Model.{entries, away};

@@ -1,9 +1,8 @@
 // The book: what it keeps, sound at every call, and its public calls.
-ghost use Rattle.std.specs.Prelude.{◌≡◌, true, false, not, ◌||◌, length, is_ok};
+ghost use Rattle.std.specs.Prelude.{◌≡◌, true, false, ◌||◌, length, is_ok};
 ghost use Rattle.sharing.specs.Sharing.{Lawful};
 ghost use Rattle.rules.specs.Calls.{entry_of, return_of, resize_of, cancel_of, market_of, bad_places, opened, opening_of};
 ghost use Rattle.rules.specs.Model.{entries, best, national_best};
-ghost use Rattle.rules.specs.Prices.{is_tick};
 ghost use Rattle.rules.specs.Sound.{Sound};
 ghost use Rattle.laws.specs.Histories.{is_accepted};
 ghost use Rattle.laws.specs.Histories.Call.{enters, returns, resizes, cancels, updates};

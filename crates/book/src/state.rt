@@ -80,7 +80,7 @@ impl<'a> State<'a> {
 impl State<'_> {
     // An entry comes to its place on a side, and its working time is the last.
     // Stays with a clause for the place, as `insert` of a side and `settle` do, and as `remove` and `replace` for the place that they
-    // read: each call alters how many there are, so no type tells of it.
+    // read: how many there are alters from call to call, so no type tells of it.
     pub(crate) fn insert(&mut self, side: Side, e: Entry)
         requires { length (entries side self.old) < places side self.old }
         ensures { self.new ≡ with_last_time e.time (with_entries side (ranked_in side e (entries side self.old)) self.old) }

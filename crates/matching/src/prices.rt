@@ -1,14 +1,11 @@
 // From price to price, in the places of a side.
 ghost use Rattle.std.specs.Prelude.{◌≡◌, ◌^◌, ◌<◌, ◌≤◌, ◌∷◌, length, take, drop};
-ghost use Rattle.std.specs.List.{AllByRecursion};
 ghost use Rattle.sharing.specs.Totals.{total};
-ghost use Rattle.rules.specs.Laws.{Tradable};
 ghost use Rattle.rules.specs.Level.{size_of};
 ghost use Rattle.rules.specs.Walk as walking;
 ghost use Rattle.rules.specs.Walk.{runs};
 ghost use Rattle.matching.specs.Parts.{live};
-ghost use Rattle.matching.specs.Tapes.{Room, Writes};
-ghost use Rattle.matching.specs.Walks.{walked, Leaves};
+ghost use Rattle.matching.specs.Walks.{walked, MayWalk, Leaves};
 
 use crate::lent::Lent;
 use crate::price::price;
@@ -76,8 +73,7 @@ pub fn walk<R: Rule>(
     entries: &mut [Entry],
     lent: &mut Lent<'_>,
 ) -> Walked
-    requires tradable { AllByRecursion (Tradable order.now.size) (runs entries.old) }
-    requires room { Room (length entries.old) (length entries.old) lent.old }
+    requires { MayWalk order.now entries.old lent.old }
     ensures leaves { Leaves (walked (R.meaning rule.now) order.now national away entries.old) result entries.new lent.old lent.new }
     ensures places { length entries.new ≡ length entries.old }
 {
