@@ -24,7 +24,7 @@ pub struct Places {
 }
 
 impl Places {
-    // So many places on the heap, with nothing in them.
+    // So many places on the heap.
     pub fn lend<T: Clone + Default + Drop>(self, heap: Global) -> io::Result<Vec<T>>
         ensures { IfOk result (λ v. vec_len v ≡ self.count) }
     {
