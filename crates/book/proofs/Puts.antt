@@ -1,17 +1,31 @@
 -- An entry that comes to a side, in its places. Assumes nothing.
-use Rattle.std.proofs.Common.{◌≡◌, ℕ, zero, suc, ◌+◌, ◌-◌, ◌<◌, ◌≤◌, Bool, false, cond, List, [], ◌∷◌, ◌++◌, length, take, drop, get_or, set, is_some, is_ok, Some, None, Ok, Err, Option, Result, sym, ap, subst, ◌∙◌, arith, length-append, length-drop, MatchResult}
+use Rattle.std.proofs.Common.{◌≡◌, ℕ, zero, suc, ◌+◌, ◌-◌, ◌<◌, ◌≤◌, Bool, true, false, cond, List, [], ◌∷◌, ◌++◌, length, take, drop, get_or, set, is_some, is_ok, Some, None, Ok, Err, Option, Result, sym, ap, subst, ◌∙◌, arith, length-append, length-drop, MatchResult}
 use Rattle.std.specs.List.{AllByRecursion, remove}
+use Rattle.std.proofs.ByRecursion.{All-weaker}
+use Rattle.std.proofs.lemmas.Bool.Decides.{nat_tests}
 use Rattle.std.proofs.lemmas.List.{length-take-le}
 use Rattle.std.proofs.lemmas.List.Edits.{length-remove}
 use Rattle.ranked.specs.Ranked.{ahead, inserted}
 use Rattle.ranked.proofs.Orderly.{length_inserted_into, front_inserted}
 use Rattle.rules.specs.declared.terms.Entry.{Entry}
 use Rattle.rules.specs.declared.terms.Side.{Side}
+use Rattle.rules.specs.declared.terms.Side.TheVariants.{Buy, Sell}
 use Rattle.rules.specs.Model.{ranked_in}
 use Rattle.rules.specs.Ranks.{rank_of, rank_before}
 use Rattle.rules.specs.Laws.{LeftOf}
+use Rattle.rules.specs.Sound.{InRank}
 use Rattle.rules.proofs.LeftOver.{each_left_of}
 use Rattle.book.specs.Ordering.{InOrder}
+
+-- what stands in rank is in order: of two ranks only one is before the other
+one_way : (s : Side) (r t : ℕ × ℕ × ℕ) → rank_before s r t ≡ true → rank_before s t r ≡ false
+one_way Buy r t p = grind (arith, nat_tests)
+one_way Sell r t p = grind (arith, nat_tests)
+
+pub in_rank_sorted : (s : Side) (es : List Entry) → InRank s es → InOrder s es
+in_rank_sorted s [] ranked = tt
+in_rank_sorted s (e ∷ es) ranked =
+    (All-weaker (λ f. rank_before s (rank_of e) (rank_of f) ≡ true) (λ f. rank_before s (rank_of f) (rank_of e) ≡ false) (λ f h. one_way s (rank_of e) (rank_of f) h) es ranked.0, in_rank_sorted s es ranked.1)
 
 -- entries that are left stay in order
 pub left_in_order : (s : Side) {es fs : List Entry} → LeftOf es fs → InOrder s es → InOrder s fs

@@ -36,6 +36,7 @@ fn ticket_for(series: u32, out: Option<u64>) -> Option<Ticket>
 }
 
 // A caller sees the book as lists and numbers: its entries on each side, the orders out, away prices and counters.
+// It does not see the invariant, so each call below says that the book is sound: as it is asked, or as the call leaves it.
 #[derive(Drop)]
 pub struct Book<'a> {
     state: State<'a>,
@@ -86,7 +87,8 @@ impl<'a> Book<'a> {
     // A book without entries, orders out or away prices, in places that the host lends, after `check_opening` let it pass.
     pub fn open(bids: &'a mut [Entry], offers: &'a mut [Entry], tick: u32, series: u32) -> Self
         requires { is_accepted (opening_of (opening_call bids.old offers.old tick series)) ≡ true }
-        ensures { result ≡ opened (opening_call bids.old offers.old tick series) }
+        ensures opened { result ≡ opened (opening_call bids.old offers.old tick series) }
+        ensures sound { Sound result }
     {
         Book {
             state: State::new(bids, offers, tick, series),
@@ -97,6 +99,7 @@ impl<'a> Book<'a> {
     pub fn market(&mut self, side: Side, price: Option<u32>) -> Result<(), Refusal>
         ensures outcome { Settles (market_of (record { side = side; price = price }) self.old) self.old result self.new (λ d a. Unit {0}) }
         ensures lawful { StaysLawful self.old (updates (record { side = side; price = price })) }
+        ensures sound { Sound self.new }
     {
         self.state.market(side, price)
     }
@@ -116,6 +119,7 @@ impl<'a> Book<'a> {
         ensures sheet { is_ok result ≡ false → sheet.new ≡ sheet.old }
         ensures length { length sheet.new ≡ length sheet.old }
         ensures lawful { (keeps : Lawful (R.meaning rule.now)) → StaysLawful self.old (enters (record { shares = R.meaning rule.now; keeps = keeps }) (entry_call order.now tape.old sheet.old)) }
+        ensures sound { Sound self.new }
     {
         let series = self.state.series;
         let mut lent = Lent::new(sheet, tape);
@@ -132,6 +136,7 @@ impl<'a> Book<'a> {
     pub fn resize(&mut self, id: u64, firm: u16, size: u32) -> Result<u32, Refusal>
         ensures outcome { Settles (resize_of (record { id = id; firm = firm; size = size }) self.old) self.old result self.new (λ d a. a ≡ d.answer) }
         ensures lawful { StaysLawful self.old (resizes (record { id = id; firm = firm; size = size })) }
+        ensures sound { Sound self.new }
     {
         self.state.resize(id, firm, size)
     }
@@ -140,6 +145,7 @@ impl<'a> Book<'a> {
     pub fn cancel(&mut self, id: u64, firm: u16) -> Result<u32, Refusal>
         ensures outcome { Settles (cancel_of (record { id = id; firm = firm }) self.old) self.old result self.new (λ d a. a ≡ d.answer) }
         ensures lawful { StaysLawful self.old (cancels (record { id = id; firm = firm })) }
+        ensures sound { Sound self.new }
     {
         self.state.cancel(id, firm)
     }
@@ -159,6 +165,7 @@ impl<'a> Book<'a> {
         ensures sheet { is_ok result ≡ false → sheet.new ≡ sheet.old }
         ensures length { length sheet.new ≡ length sheet.old }
         ensures lawful { (keeps : Lawful (R.meaning rule.now)) → StaysLawful self.old (returns (record { shares = R.meaning rule.now; keeps = keeps }) (return_call ticket executed tape.old sheet.old)) }
+        ensures sound { Sound self.new }
     {
         let mut lent = Lent::new(sheet, tape);
         if let Err(refusal) = self.state.give_back(rule, &ticket, executed, &mut lent) {
@@ -170,19 +177,21 @@ impl<'a> Book<'a> {
 
     // The best price on a side of the book.
     pub fn best(&self, side: Side) -> Option<u32>
-        ensures { result ≡ best (entries side self.now) }
+        ensures best { result ≡ best (entries side self.now) }
+        ensures sound { Sound self.now }
     {
         self.state.side(side).best()
     }
 
     // The national best price on a side: the better of the book's and the away price.
     pub fn national_best(&self, side: Side) -> Option<u32>
-        ensures { result ≡ national_best side self.now }
+        ensures national_best { result ≡ national_best side self.now }
+        ensures sound { Sound self.now }
     {
         self.state.side(side).national_best()
     }
 
-    // The number of entries on a side. A book that one can ask is sound.
+    // The number of entries on a side.
     pub fn count(&self, side: Side) -> usize
         ensures count { result ≡ length (entries side self.now) }
         ensures sound { Sound self.now }
@@ -192,7 +201,8 @@ impl<'a> Book<'a> {
 
     // The number of orders out.
     pub fn count_out(&self) -> usize
-        ensures { result ≡ length self.now.out }
+        ensures count_out { result ≡ length self.now.out }
+        ensures sound { Sound self.now }
     {
         self.state.out.len()
     }

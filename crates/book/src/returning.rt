@@ -48,7 +48,9 @@ impl State<'_> {
         ensures tapes { Tapes (return_of (R.meaning rule.now) (returning ticket.now executed lent.old) self.old) lent.old lent.new }
     {
         let at = self.check_return(ticket, executed, lent)?;
-        let row = self.out.remove(at);
+        // Stays in two steps: which order trades and which row goes can be got wrong apart.
+        let row = self.out[at];
+        self.out.remove(at);
         let back = Routed {
             size: row.size - executed,
             ..row

@@ -1,5 +1,5 @@
 -- What stands under an id on a list, and what goes with it. Assumes nothing.
-use Rattle.std.proofs.Common.{◌≡◌, ℕ, ◌+◌, ◌≤◌, Bool, false, cond, not, eqb, List, [], ◌∷◌, is_some, Some, filter, sym, refl, ap, inl, inr, ⊎_elim, arith}
+use Rattle.std.proofs.Common.{◌≡◌, ℕ, ◌+◌, ◌≤◌, Bool, false, cond, not, eqb, List, [], ◌∷◌, is_some, Some, filter, sym, refl, ap, subst, inl, inr, ⊎_elim, arith}
 use Rattle.std.specs.List.{AllByRecursion}
 use Rattle.std.proofs.ByRecursion.{All-weaker}
 use Rattle.std.proofs.lemmas.Bool.Decides.{nat_tests}
@@ -45,6 +45,12 @@ none_held i es none = total_none (λ e. eqb e.id i) size_of es none
 pub all_among : (es : List Entry) → AllByRecursion (λ e. Among e es) es
 all_among [] = tt
 all_among (e ∷ es) = (inl refl, All-weaker (λ f. Among f es) (λ f. Among f (e ∷ es)) (λ f h. inr h) es (all_among es))
+
+-- and what holds of each of them holds of one among them
+pub among_all : (P : Entry → Type 0) (e : Entry) (es : List Entry) → AllByRecursion P es → Among e es → P e
+among_all P e [] ps h = absurd h
+among_all P e (f ∷ fs) ps (inl same) = subst P (sym same) ps.0
+among_all P e (f ∷ fs) ps (inr h) = among_all P e fs ps.1 h
 
 -- entries with the id of one that stands there
 abbrev pub alike : Entry → Entry → Bool

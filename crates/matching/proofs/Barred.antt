@@ -21,6 +21,7 @@ pub record Barring (barred : Entry → Bool) (run0 : List Entry) (lent0 : Lent) 
   pub left : live (take i run) ≡ filter (λ e. not (barred e)) (take i run0)
   pub rest : drop i run ≡ drop i run0
   pub writes : Writes (map barred_line (filter barred (take i run0))) lent0 lent
+  pub sheet : lent.sheet.now ≡ lent0.sheet.now
 
 module _ {barred : Entry → Bool} {run0 run : List Entry} {lent0 lent : Lent} {i : ℕ} (state : Barring barred run0 lent0 i run lent)
     (within : i < length run) (long : length run ≡ length run0) (sized : AllByRecursion (λ e. 1 ≤ e.size) run0) (room : lent0.lines + length run0 ≤ length lent0.tape.now) where
@@ -55,11 +56,12 @@ module _ {barred : Entry → Bool} {run0 run : List Entry} {lent0 lent : Lent} {
         left = kept_one is_live run i no_entry within alive ∙ (λ t. state.left t ++ same t ∷ []) ∙ sym (kept_one (λ e. not (barred e)) run0 i no_entry inside (ap not here));
         rest = rest_more;
         writes = rw (kept_other barred run0 i no_entry inside here) state.writes;
+        sheet = state.sheet;
       }
 
   -- a barred one goes
-  pub goes : {lent' : Lent} → barred e ≡ true → Writes (barred_line e ∷ []) lent lent' → Barring barred run0 lent0 (i + 1) (set run i (resized 0 e)) lent'
-  goes {lent'} out writes =
+  pub goes : {lent' : Lent} → barred e ≡ true → Writes (barred_line e ∷ []) lent lent' → lent'.sheet.now ≡ lent.sheet.now → Barring barred run0 lent0 (i + 1) (set run i (resized 0 e)) lent'
+  goes {lent'} out writes claims =
       let here : barred (get_or run0 i no_entry) ≡ true = ap barred (sym same) ∙ out in
       let gone = resized 0 e in
       let lines : written_so_far ++ barred_line e ∷ [] ≡ map barred_line (filter barred (take (i + 1) run0)) =
@@ -68,4 +70,5 @@ module _ {barred : Entry → Bool} {run0 run : List Entry} {lent0 lent : Lent} {
         left = ap live (take_more_set run i gone within) ∙ filter-append is_live (take i run) (gone ∷ []) ∙ append-nil (live (take i run)) ∙ state.left ∙ sym (kept_other (λ e. not (barred e)) run0 i no_entry inside (ap not here));
         rest = drop-set-lt (i + 1) run i gone (omega arith) ∙ rest_more;
         writes = rw lines at (writes_twice state.writes writes (omega (arith, few, length-append written_so_far (barred_line e ∷ []))));
+        sheet = claims ∙ state.sheet;
       }

@@ -1,8 +1,7 @@
 -- A walk from run to run, as far as it has come in the places of a side. Assumes nothing.
-use Rattle.std.proofs.Common.{◌≡◌, ℕ, zero, suc, ◌+◌, ◌-◌, ◌<◌, ◌≤◌, Bool, true, false, ◌&&◌, eqb, leb, List, [], ◌∷◌, ◌++◌, length, get_or, take, drop, Option, Some, None, sym, refl, ap, ◌∙◌, arith}
+use Rattle.std.proofs.Common.{◌≡◌, ℕ, zero, suc, ◌+◌, ◌-◌, ◌<◌, ◌≤◌, Bool, true, false, ◌&&◌, eqb, leb, List, [], ◌∷◌, ◌++◌, length, get_or, take, drop, Option, sym, refl, ap, ◌∙◌, arith}
 use borrow.Rule.Slice.PartMut.{put_mid}
 use Rattle.std.specs.List.{between, AllByRecursion}
-use Rattle.std.specs.Option.{option_eq}
 use Rattle.std.proofs.lemmas.List.Edits.{length-between}
 use Rattle.std.proofs.lemmas.List.Elements.{filter-append}
 use Rattle.std.proofs.ByRecursion.{All-append}
@@ -28,10 +27,6 @@ use Rattle.matching.specs.Walks.{walked}
 use Rattle.rules.proofs.Defaults.{no_entry}
 use Rattle.rules.proofs.Held.{Sized}
 use Rattle.matching.proofs.Written.{writes_none, writes_twice}
-
-pub best_is : (national : Option ℕ) (p : ℕ) → option_eq eqb national (Some p) ≡ is_price_of national p
-best_is None p = refl
-best_is (Some n) p = refl
 
 -- entries with contracts are all there
 live_all : (es : List Entry) → AllByRecursion Sized es → live es ≡ es

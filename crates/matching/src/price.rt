@@ -21,6 +21,7 @@ fn bar(order: &Routed, run: &mut [Entry], lent: &mut Lent<'_>)
     requires room { Room 0 (length run.old) lent.old }
     ensures run { live run.new ≡ filter (λ e. not (is_barred order.now.firm order.now.own_firm_mark e)) run.old }
     ensures writes { Writes (map barred_line (filter (is_barred order.now.firm order.now.own_firm_mark) run.old)) lent.old lent.new }
+    ensures claims { lent.new.sheet.now ≡ lent.old.sheet.now }
 {
     for e in run.iter_mut() {
         if e.is_barred(order.firm, order.own_firm_mark) {

@@ -47,6 +47,14 @@ fn run_length(entries: &[Entry]) -> usize
     entries.iter().take_while(|e| e.price == first).count()
 }
 
+// The price is the national best, where makers have their guarantee.
+// Stays a comparison of two prices, and not `== Some(price)`: an edit that takes `<=` for it has to be able to name it.
+fn is_best(national: Option<u32>, price: u32) -> bool
+    ensures { result ≡ walking.is_price_of national price }
+{
+    matches!(national, Some(n) if n == price)
+}
+
 // Closes the gaps that entries with nothing left have; answers how many are left.
 fn close_gaps(entries: &mut [Entry]) -> usize
     ensures value { result ≡ length (live entries.old) }
@@ -83,7 +91,7 @@ pub fn walk<R: Rule>(
     // Stays: after a loop over `chunk_by_mut` a proof knows how many entries there are, and not which.
     while from < entries.len() && balance > 0 && side.within_reach(cap, away, entries[from].price) {
         let to = from + run_length(&entries[from..]);
-        let at_best = national == Some(entries[from].price);
+        let at_best = is_best(national, entries[from].price);
         balance = price(rule, order, at_best, balance, &mut entries[from..to], lent);
         from = to;
     }

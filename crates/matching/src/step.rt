@@ -51,11 +51,15 @@ fn pay(part: Part, run: &mut [Entry], lent: &mut Lent<'_>)
     requires within { AllZip ◌≤◌ (map allotment_of (take (length (taking part run.old)) lent.old.sheet.now)) (map size_of (taking part run.old)) }
     ensures run { live run.new ≡ left_after (gives part lent.old.sheet.now run.old) (live run.old) }
     ensures writes { Writes (fills_at part lent.old.sheet.now run.old) lent.old lent.new }
+    ensures claims { lent.new.sheet.now ≡ lent.old.sheet.now }
 {
     // Stays: the claims are counted, since only those who take part have one, and a zip over the sheet would need them apart first.
     let mut j = 0;
-    for e in run.iter_mut() {
-        if part.takes(e) {
+    // Stays a loop over an index: an entry's fill is written at the entry's own place, and an edit that credits another entry's place
+    // has to be able to name that place.
+    for i in 0..run.len() {
+        let e = run[i];
+        if part.takes(&e) {
             let size = lent.sheet[j].allotment;
             j += 1;
             if size > 0 {
@@ -66,7 +70,7 @@ fn pay(part: Part, run: &mut [Entry], lent: &mut Lent<'_>)
                     price: e.price,
                     step: part.step(),
                 });
-                e.size -= size;
+                run[i].size = e.size - size;
             }
         }
     }

@@ -1,12 +1,11 @@
 // Makes the calls of a sheet on a book, and prints what came of each.
 use crate::printing::Shown;
 use crate::reading::{Call, MOST, Means};
-use crate::tickets::{Held, Stop, keep, leave, leave_all};
+use crate::tickets::{Held, Stop, keep, leave, leave_all, take};
 use book::{Accepted, Book, NotReturned};
 use rules::{Line, Order, Refusal, Side};
 use sharing::{ByTime, Claim};
 use std::alloc::Global;
-use std::collections::BTreeMap;
 use std::fmt::Display;
 use std::io;
 use std::str::Lines;
@@ -22,9 +21,8 @@ struct Rested {
 // A book, the tickets of its orders that are out, and all entries that ever rested there.
 pub struct Desk<'a, P: Print> {
     rt: &'a P,
-    heap: Global,
     book: Book<'a>,
-    held: BTreeMap<u64, Held>,
+    held: Vec<Held>,
     rested: Vec<Rested>,
 }
 
@@ -32,9 +30,8 @@ impl<'a, P: Print> Desk<'a, P> {
     pub fn new(rt: &'a P, heap: Global, book: Book<'a>) -> Self {
         Desk {
             rt,
-            heap,
             book,
-            held: BTreeMap::new(heap),
+            held: Vec::new(heap),
             rested: Vec::new(heap),
         }
     }
@@ -61,37 +58,36 @@ impl<'a, P: Print> Desk<'a, P> {
 
     fn enter(&mut self, means: Means, order: Order) -> Result<(), Stop> {
         let Order { id, side, .. } = order;
-        let (mut sheet, mut tape) = means.lend(self.heap)?;
-        match self.book.enter(&means.rule, &order, &mut sheet, &mut tape) {
+        let mut sheet = [Claim::default(); MOST];
+        let mut tape = [Line::default(); MOST];
+        let (sheet, tape) = means.lend(&mut sheet, &mut tape);
+        match self.book.enter(&means.rule, &order, sheet, tape) {
             Err(why) => Ok(println!(self.rt; "{}", Shown(why))?),
             Ok(Accepted { lines, ticket }) => {
                 if let Some(ticket) = ticket {
-                    keep(&mut self.held, id, Held { side, ticket })?;
+                    keep(&mut self.held, Held { id, side, ticket })?;
                 }
-                tape.truncate(lines);
-                Ok(self.show_tape(side, &tape)?)
+                Ok(self.show_tape(side, &tape[..lines.min(tape.len())])?)
             }
         }
     }
 
     fn give_back(&mut self, means: Means, id: u64, executed: u32) -> Result<(), Stop> {
-        // Lent first: where memory is short, the ticket is still held.
-        let (mut sheet, mut tape) = means.lend(self.heap)?;
-        let Some(Held { side, ticket }) = self.held.remove(&id) else {
+        let mut sheet = [Claim::default(); MOST];
+        let mut tape = [Line::default(); MOST];
+        let (sheet, tape) = means.lend(&mut sheet, &mut tape);
+        let Some(Held { id, side, ticket }) = take(&mut self.held, id) else {
             return Ok(println!(self.rt; "noticket")?);
         };
         match self
             .book
-            .give_back(&means.rule, ticket, executed, &mut sheet, &mut tape)
+            .give_back(&means.rule, ticket, executed, sheet, tape)
         {
             Err(NotReturned { refusal, ticket }) => {
-                keep(&mut self.held, id, Held { side, ticket })?;
+                keep(&mut self.held, Held { id, side, ticket })?;
                 Ok(println!(self.rt; "{}", Shown(refusal))?)
             }
-            Ok(lines) => {
-                tape.truncate(lines);
-                Ok(self.show_tape(side, &tape)?)
-            }
+            Ok(lines) => Ok(self.show_tape(side, &tape[..lines.min(tape.len())])?),
         }
     }
 
@@ -149,7 +145,6 @@ impl<'a, P: Print> Desk<'a, P> {
     pub fn close(self, run: Result<(), Stop>) -> Result<(), Stop> {
         let Desk {
             rt: _,
-            heap: _,
             mut book,
             mut held,
             rested: _,
@@ -159,7 +154,14 @@ impl<'a, P: Print> Desk<'a, P> {
             return Err(stop);
         }
         // Lent from the stack, with all the places that a sheet may ask for: no ticket is left for want of memory.
-        while let Some((_, Held { side: _, ticket })) = held.pop_first() {
+        while let Some(
+            Held {
+                id: _,
+                side: _,
+                ticket,
+            },
+        ) = held.pop()
+        {
             if let Err(NotReturned { refusal: _, ticket }) = book.give_back(
                 &ByTime,
                 ticket,

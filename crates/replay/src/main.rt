@@ -9,7 +9,7 @@ mod tickets;
 
 use crate::desk::Desk;
 use crate::printing::Shown;
-use crate::reading::Opening;
+use crate::reading::{MOST, Opening};
 use crate::tickets::Stop;
 use book::{Book, check_opening};
 use rules::Entry;
@@ -28,9 +28,14 @@ fn replay(rt: &impl Print, heap: Global, opening: Opening, lines: Lines<'_>) -> 
     if let Err(why) = check_opening(bids.count, offers.count, tick, series) {
         return Ok(println!(rt; "{}", Shown(why))?);
     }
-    let mut bid_places = bids.lend::<Entry>(heap)?;
-    let mut offer_places = offers.lend::<Entry>(heap)?;
-    let book = Book::open(&mut bid_places, &mut offer_places, tick, series);
+    let mut bid_places = [Entry::default(); MOST];
+    let mut offer_places = [Entry::default(); MOST];
+    let book = Book::open(
+        bids.lend(&mut bid_places),
+        offers.lend(&mut offer_places),
+        tick,
+        series,
+    );
     let mut desk = Desk::new(rt, heap, book);
     let result = desk.run(lines);
     desk.close(result)

@@ -1,12 +1,10 @@
 // Reads the lines of a sheet, word by word.
 ghost use Rattle.replay.specs.declared.reading.TheConstants.{MOST};
-ghost use Rattle.std.specs.Prelude.{◌≡◌, ◌≤◌, IfOk, vec_len};
+ghost use Rattle.std.specs.Prelude.{◌≡◌, ◌≤◌, length};
 
 use crate::shipped::Shipped;
 use rules::{Kind, Line, Order, Side, Term};
 use sharing::Claim;
-use std::alloc::Global;
-use std::io;
 use std::str::{FromStr, SplitWhitespace};
 
 // The most places that a sheet may ask for: more than a side may have, so that too many can be asked for.
@@ -24,11 +22,11 @@ pub struct Places {
 }
 
 impl Places {
-    // So many places on the heap.
-    pub fn lend<T: Clone + Default + Drop>(self, heap: Global) -> io::Result<Vec<T>>
-        ensures { IfOk result (λ v. vec_len v ≡ self.count) }
+    // The first of the places, as many as are asked.
+    pub fn lend<T>(self, places: &mut [T; MOST]) -> &mut [T]
+        ensures { length result.now ≡ self.count }
     {
-        Ok(vec![in heap; T::default(); self.count]?)
+        &mut places[..self.count]
     }
 }
 
@@ -49,12 +47,17 @@ pub struct Means {
 }
 
 impl Means {
-    // A claim sheet and a tape of so many places.
-    pub fn lend(self, heap: Global) -> io::Result<(Vec<Claim>, Vec<Line>)>
-        ensures sheet { IfOk result (λ lent. vec_len lent.0 ≡ self.sheet.count) }
-        ensures tape { IfOk result (λ lent. vec_len lent.1 ≡ self.tape.count) }
+    // The first places of a claim sheet and of a tape, as many of each as are asked. They are on the stack of the caller: no call
+    // fails for want of memory for them.
+    pub fn lend<'s>(
+        self,
+        sheet: &'s mut [Claim; MOST],
+        tape: &'s mut [Line; MOST],
+    ) -> (&'s mut [Claim], &'s mut [Line])
+        ensures sheet { length result.0.now ≡ self.sheet.count }
+        ensures tape { length result.1.now ≡ self.tape.count }
     {
-        Ok((self.sheet.lend(heap)?, self.tape.lend(heap)?))
+        (self.sheet.lend(sheet), self.tape.lend(tape))
     }
 }
 

@@ -1,12 +1,12 @@
-// The route tickets that the program holds, each by the id of its order and with the order's side.
+// The route tickets that the program holds, each with the id and the side of its order.
 use crate::reading::Unreadable;
 use book::Ticket;
 use rules::Side;
-use std::collections::BTreeMap;
 use std::io;
 use std::mem::ManuallyDrop;
 
 pub struct Held {
+    pub id: u64,
     pub side: Side,
     pub ticket: Ticket,
 }
@@ -38,17 +38,27 @@ pub fn leave(ticket: Ticket) {
     let _left = unsafe { ManuallyDrop::new_unchecked(ticket) };
 }
 
-pub fn leave_all(held: BTreeMap<u64, Held>) {
+pub fn leave_all(held: Vec<Held>) {
     let _left = unsafe { ManuallyDrop::new_unchecked(held) };
 }
 
-// Keeps the ticket of an order. An order has one: were there another before, it would be left, as one that finds no memory is.
-pub fn keep(held: &mut BTreeMap<u64, Held>, id: u64, one: Held) -> Result<(), Stop> {
-    let Held { side: _, ticket } = match held.insert(id, one) {
-        Ok(None) => return Ok(()),
-        Ok(Some(before)) => before,
-        Err(refused) => refused.value.1,
+// Keeps a ticket; one that finds no memory is left.
+// Stays a list, and not a map by the id: a ticket that was taken out has its place there still, and a map may need memory for it anew.
+pub fn keep(held: &mut Vec<Held>, one: Held) -> Result<(), Stop> {
+    let Err(refused) = held.push(one) else {
+        return Ok(());
     };
+    let Held {
+        id: _,
+        side: _,
+        ticket,
+    } = refused.value;
     leave(ticket);
     Err(Stop::Left)
+}
+
+// Takes out the ticket of an order. At most sixteen are out, so they are gone over.
+pub fn take(held: &mut Vec<Held>, id: u64) -> Option<Held> {
+    let at = held.iter().position(|one| one.id == id)?;
+    Some(held.swap_remove(at))
 }

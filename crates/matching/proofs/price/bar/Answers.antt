@@ -11,6 +11,6 @@ write-requires c = record { room = barring_room c.loop-e.invariant (omega arith)
 pub loop-e-preserved : goal.loop-e-preserved
 loop-e-preserved c =
     elim c.if-is_barred.branch [
-      | then-is_barred w ↦ rw (w.run-is, w.lent-is) (goes c.loop-e.invariant (omega arith) c.loop-e.auto.run c.requires.live c.requires.room.tape (sym c.is_barred.ensures ∙ w.if-is_barred.true) w.write.ensures.writes)
+      | then-is_barred w ↦ rw (w.run-is, w.lent-is) (goes c.loop-e.invariant (omega arith) c.loop-e.auto.run c.requires.live c.requires.room.tape (sym c.is_barred.ensures ∙ w.if-is_barred.true) w.write.ensures.writes w.write.ensures.claims)
       | else-is_barred w ↦ rw (w.run-is, w.lent-is, set-get_or c.loop-e.run c.loop-e.e-index no_entry) (stays c.loop-e.invariant (omega arith) c.loop-e.auto.run c.requires.live c.requires.room.tape (sym c.is_barred.ensures ∙ w.if-is_barred.false))
     ]

@@ -1,6 +1,6 @@
 use Rattle.std.proofs.Common.{◌-◌, length, drop, ap, ◌∙◌, arith}
 use Rattle.std.proofs.lemmas.List.{take_all, length-drop}
-use Rattle.matching.proofs.Walks.{Ends, best_is, walking_none, walking_more, stops_last, stops_spent, stops_beyond, done_balance, done_writes, done_run}
+use Rattle.matching.proofs.Walks.{Ends, walking_none, walking_more, stops_last, stops_spent, stops_beyond, done_balance, done_writes, done_run}
 use Rattle.matching.proofs.prices.walk.Goals as goal
 use Rattle.matching.proofs.prices.walk.Goals.{then-loop-from-test+then-balance-gt0+else-within_reach, then-loop-from-test+else-balance-gt0, else-loop-from-test}
 
@@ -12,7 +12,7 @@ loop-from-preserved g c =
     let l = c.loop-from in
     let all = take_all (length l.entries - l.from) (drop l.from l.entries) (omega (arith, length-drop l.from l.entries)) in
     let run = c.run_length.ensures in
-    walking_more l.invariant run.some _ all run.within run.run c.if-balance-gt0.true c.within_reach.ensures c.if-within_reach.true (c.eq-at_best.ensures ∙ best_is c.args.national _) c.requires.room.tape c.price-balance.ensures
+    walking_more l.invariant run.some _ all run.within run.run c.if-balance-gt0.true c.within_reach.ensures c.if-within_reach.true c.is_best-at_best.ensures c.requires.room.tape c.price-balance.ensures
 
 pub returns : goal.returns
 returns g c =

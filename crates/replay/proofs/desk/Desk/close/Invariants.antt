@@ -1,5 +1,5 @@
-use Rattle.std.specs.BTreeMap.{btree_map_len}
+use Rattle.std.proofs.Common.{vec_len}
 use Rattle.replay.proofs.desk.Desk.close.Given as goal
 
 abbrev pub decreases-loop-ticket : goal.decreases-loop-ticket
-decreases-loop-ticket g l = btree_map_len l.held
+decreases-loop-ticket g l = vec_len l.held
